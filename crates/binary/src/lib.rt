@@ -1,0 +1,86 @@
+// Little-endian numbers in a slice of bytes (binary.rs, and the closures u16_at and u32_at of mascon_tree.rs).
+ghost use mathlib.Core.Path.{_≡_};
+ghost use Prim.Native.Nat.{_+_, _≤_, _<_};
+ghost use lib.ListN.{length};
+ghost use lib.Ieee.{binary64, toBits};
+ghost use Rattle.float.specs.Narrow.{narrow64};
+ghost use Rattle.rym1.specs.Bytes.{word16, word32, word64, le16, le32, le64, splice};
+
+// A byte as a wider number: `wide(s[i])` asks only for the index.
+fn wide(x: u8) -> u32
+    ensures { λ r. ⌜ (r ≡ x) × (r < 256) ⌝ }
+{
+    x as u32
+}
+
+pub fn u16_at(s: &[u8], at: usize) -> u32
+    requires { ⌜ at + 2 ≤ length (now s) ⌝ }
+    ensures { λ r. ⌜ (r ≡ word16 (now (s .entry)) at) × (r < 65536) ⌝ }
+{
+    let a = wide(s[at]);
+    let b = wide(s[at + 1]);
+    a + 256 * b
+}
+
+pub fn u32_at(s: &[u8], at: usize) -> u32
+    requires { ⌜ at + 4 ≤ length (now s) ⌝ }
+    ensures { λ r. ⌜ r ≡ word32 (now (s .entry)) at ⌝ }
+{
+    let a = wide(s[at]);
+    let b = wide(s[at + 1]);
+    let c = wide(s[at + 2]);
+    let d = wide(s[at + 3]);
+    a + 256 * b + 65536 * c + 16777216 * d
+}
+
+pub fn u64_at(s: &[u8], at: usize) -> u64
+    requires { ⌜ at + 8 ≤ length (now s) ⌝ }
+    ensures { λ r. ⌜ r ≡ word64 (now (s .entry)) at ⌝ }
+{
+    let low = u32_at(s, at) as u64;
+    let high = u32_at(s, at + 4) as u64;
+    low + 4294967296 * high
+}
+
+// The low two bytes of the value.
+pub fn out_u16(s: &mut [u8], at: usize, value: u32)
+    requires { ⌜ at + 2 ≤ length (now s) ⌝ }
+    ensures { λ _. ⌜ now (s .exit) ≡ splice (now (s .entry)) at (le16 value) ⌝ }
+{
+    let low = value % 256;
+    let high = value / 256 % 256;
+    s[at] = low as u8;
+    s[at + 1] = high as u8;
+}
+
+pub fn out_u32(s: &mut [u8], at: usize, value: u32)
+    requires { ⌜ at + 4 ≤ length (now s) ⌝ }
+    ensures { λ _. ⌜ now (s .exit) ≡ splice (now (s .entry)) at (le32 value) ⌝ }
+{
+    let v1 = value / 256;
+    let v2 = v1 / 256;
+    let v3 = v2 / 256;
+    s[at] = (value % 256) as u8;
+    s[at + 1] = (v1 % 256) as u8;
+    s[at + 2] = (v2 % 256) as u8;
+    s[at + 3] = (v3 % 256) as u8;
+}
+
+pub fn out_u64(s: &mut [u8], at: usize, value: u64)
+    requires { ⌜ at + 8 ≤ length (now s) ⌝ }
+    ensures { λ _. ⌜ now (s .exit) ≡ splice (now (s .entry)) at (le64 value) ⌝ }
+{
+    let low = value % 4294967296;
+    let high = value / 4294967296;
+    out_u32(s, at, low as u32);
+    out_u32(s, at + 4, high as u32);
+}
+
+// The pattern of the binary32 nearest to the value. A NaN gives 0x7fc00000.
+pub fn out_f32(s: &mut [u8], at: usize, value: f64)
+    requires { ⌜ at + 4 ≤ length (now s) ⌝ }
+    ensures { λ _. ⌜ now (s .exit) ≡ splice (now (s .entry)) at (le32 (narrow64 (toBits binary64 value))) ⌝ }
+{
+    let pattern = float::narrow(value);
+    out_u32(s, at, pattern);
+}

@@ -1,0 +1,9 @@
+pub mod Models
+pub mod Rounding
+pub mod Generic
+pub mod Unique
+pub mod Best
+pub mod Kit
+pub mod Machine
+pub mod Finite
+pub mod WholePart

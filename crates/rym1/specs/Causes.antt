@@ -1,0 +1,26 @@
+-- Causes of refusal by 01's numbers, and the outcome of a call. Definitions only.
+use Prim.Native.Nat.{ℕ, zero, suc}
+use mathlib.Core.Bool.{Bool, true, false}
+
+-- the cause n where the condition holds, as 01's table has it; 0 is no cause
+unfoldable pub when : Bool → ℕ → ℕ
+when true n = n
+when false n = 0
+
+-- causes in 01's order: the first that is not 0
+unfoldable pub first : ℕ → ℕ → ℕ
+first zero m = m
+first (suc n) m = suc n
+
+-- the outcome of a call: its answer, a cause's number or a length in bytes, and all else that it returns or leaves in what was lent to it
+pub record Outcome (B : Type 0) : Type 0 where
+  pub answer : ℕ
+  pub left : B
+
+unfoldable pub outcome : {B : Type 0} → ℕ → B → Outcome B
+outcome n s = record { answer = n; left = s }
+
+-- refused by the cause, where there is one, with what was lent as it was; else what is done
+unfoldable pub refuse : {B : Type 0} → ℕ → B → Outcome B → Outcome B
+refuse zero s done = done
+refuse (suc n) s done = record { answer = suc n; left = s }

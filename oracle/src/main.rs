@@ -1,0 +1,89 @@
+//! Holds the proved library against the original Rust and writes the stored answers.
+
+#![deny(unsafe_code)]
+
+#[allow(unsafe_code)]
+mod ffi;
+#[cfg(original)]
+mod models;
+mod narrow;
+mod original;
+#[cfg(original)]
+mod points;
+mod report;
+mod rng;
+mod store;
+
+use report::Report;
+use std::env;
+use std::path::Path;
+use std::process::ExitCode;
+
+const USAGE: &str = "usage: oracle check [all|narrow|stored|original]
+       oracle store narrow FILE
+       oracle verify-stored [narrow] FILE";
+
+fn main() -> ExitCode {
+    let words: Vec<String> = env::args().skip(1).collect();
+    let words: Vec<&str> = words.iter().map(String::as_str).collect();
+    match words[..] {
+        ["check"] => check("all"),
+        ["check", what @ ("all" | "narrow" | "stored" | "original")] => check(what),
+        ["store", kind, file] => told(store::store(kind, Path::new(file))),
+        ["verify-stored", file] => told(store::verify(stem(file), Path::new(file))),
+        ["verify-stored", kind, file] => told(store::verify(kind, Path::new(file))),
+        _ => {
+            eprintln!("{USAGE}");
+            ExitCode::from(2)
+        }
+    }
+}
+
+/// A file's name without its ending: the kind of stored answers where none is given.
+fn stem(file: &str) -> &str {
+    let stem = Path::new(file).file_stem();
+    stem.and_then(|stem| stem.to_str()).unwrap_or_default()
+}
+
+fn told(result: Result<String, String>) -> ExitCode {
+    match result {
+        Ok(line) => {
+            println!("{line}");
+            ExitCode::SUCCESS
+        }
+        Err(line) => {
+            eprintln!("oracle: {line}");
+            ExitCode::FAILURE
+        }
+    }
+}
+
+fn check(what: &str) -> ExitCode {
+    let mut report = Report::new();
+    let wanted = |name: &str| what == "all" || what == name;
+    if !original::AT_HAND {
+        println!(
+            "the original is not at hand: what needs it is left out, stored answers are compared"
+        );
+    }
+    if wanted("narrow") {
+        narrow::check(&mut report);
+    }
+    if wanted("stored") {
+        store::check(&mut report);
+    }
+    #[cfg(original)]
+    if wanted("original") {
+        models::check(&mut report);
+    }
+    let agreed = report.finish();
+    let excused = original::AT_HAND || env::var("CI").as_deref() != Ok("true");
+    if !excused {
+        println!("oracle: failed, CI=true does not do without the original");
+    }
+    if agreed && excused {
+        ExitCode::SUCCESS
+    } else {
+        ExitCode::FAILURE
+    }
+}

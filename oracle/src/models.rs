@@ -1,0 +1,253 @@
+//! The original itself on models whose answers are known: it is compiled and reached as it should be.
+
+use crate::original::{self, shim};
+use crate::points::{point_file, Header, Record};
+use crate::report::{Found, Report};
+
+/// A tetrahedron with corners at the origin and at 12 on each axis, seen from outside.
+const TETRAHEDRON: [f64; 36] = [
+    0.0, 0.0, 0.0, 0.0, 12.0, 0.0, 12.0, 0.0, 0.0, //
+    0.0, 0.0, 0.0, 12.0, 0.0, 0.0, 0.0, 0.0, 12.0, //
+    0.0, 0.0, 0.0, 0.0, 0.0, 12.0, 0.0, 12.0, 0.0, //
+    12.0, 0.0, 0.0, 0.0, 12.0, 0.0, 0.0, 0.0, 12.0,
+];
+
+const KERNEL: [f64; 5] = [1.0, 2.0, 3.0, 0.5, 7.0];
+
+/// Says what is wrong, or nothing.
+type Model = (&'static str, fn() -> Result<(), String>);
+
+const MODELS: [Model; 11] = [
+    ("no record", no_record),
+    ("one record", one_record),
+    ("all cells of grid 2", full_grid_2),
+    ("a full plane of grid 3", plane_of_grid_3),
+    ("a corner of grid 4", corner_of_grid_4),
+    ("a shared slot", shared_slot),
+    ("a ray", ray),
+    ("near crossings", near_crossings),
+    ("density", density),
+    ("reading", reading),
+    ("filling at every grid size", filling),
+];
+
+pub(crate) fn check(report: &mut Report) {
+    report.run("original: models", || {
+        let wrong: Vec<String> = MODELS
+            .iter()
+            .filter_map(|(name, model)| model().err().map(|why| format!("{name}: {why}")))
+            .collect();
+        Found {
+            cases: MODELS.len() as u64,
+            mismatches: wrong.len() as u64,
+            smallest: wrong.into_iter().next(),
+        }
+    });
+}
+
+fn same<T: PartialEq + std::fmt::Debug>(what: &str, got: T, want: T) -> Result<(), String> {
+    if got == want {
+        Ok(())
+    } else {
+        Err(format!("{what} {got:?}, not {want:?}"))
+    }
+}
+
+fn record(x: u16, y: u16, z: u16) -> Record {
+    Record {
+        cell: [x, y, z],
+        cauchy_mass: 1.0,
+        elliptic_mass: 2.0,
+    }
+}
+
+fn word_at(bytes: &[u8], at: usize) -> u32 {
+    u32::from_le_bytes([bytes[at], bytes[at + 1], bytes[at + 2], bytes[at + 3]])
+}
+
+fn float_at(bytes: &[u8], at: usize) -> f32 {
+    f32::from_bits(word_at(bytes, at))
+}
+
+/// The tree, after a look at its length and its counts.
+fn tree(file: &[u8], bytes: usize, nodes: usize, order: &[u32]) -> Result<Vec<u8>, String> {
+    let (tree, node_count, order_count) = shim::build_mascon_tree(file)?;
+    same("bytes", tree.len(), bytes)?;
+    same("nodes", node_count, nodes)?;
+    same("order count", order_count, order.len())?;
+    let words: Vec<u32> = (0..order.len())
+        .map(|i| word_at(&tree, 64 + 80 * nodes + 4 * i))
+        .collect();
+    same("order", &words[..], order)?;
+    Ok(tree)
+}
+
+fn links(tree: &[u8], node: usize) -> [f32; 2] {
+    [24, 28].map(|at| float_at(tree, 64 + 80 * node + at))
+}
+
+fn no_record() -> Result<(), String> {
+    let tree = tree(&point_file(Header::cube(1, 2.0), &[]), 144, 1, &[])?;
+    same("links", links(&tree, 0), [-1.0; 2])
+}
+
+fn one_record() -> Result<(), String> {
+    let record = Record {
+        cell: [0; 3],
+        cauchy_mass: 3.0,
+        elliptic_mass: 0.0,
+    };
+    let tree = tree(&point_file(Header::cube(1, 2.0), &[record]), 148, 1, &[0])?;
+    let ones = [0, 4, 8, 12, 32, 36, 40, 48, 52, 56, 64, 68, 72].map(|at| float_at(&tree, 64 + at));
+    same("centre, half and centres of mass", ones, [1.0; 13])?;
+    same(
+        "sums",
+        [16, 20].map(|at| float_at(&tree, 64 + at)),
+        [3.0, 0.0],
+    )
+}
+
+fn full_grid_2() -> Result<(), String> {
+    let records: Vec<Record> = (0..8).map(|i| record(i & 1, i >> 1 & 1, i >> 2)).collect();
+    let tree = tree(
+        &point_file(Header::cube(2, 2.0), &records),
+        176,
+        1,
+        &[0, 1, 2, 3, 4, 5, 6, 7],
+    )?;
+    same("links", links(&tree, 0), [-1.0; 2])
+}
+
+fn plane_of_grid_3() -> Result<(), String> {
+    let records: Vec<Record> = (0..9).map(|i| record(i % 3, i / 3, 0)).collect();
+    let tree = tree(
+        &point_file(Header::cube(3, 3.0), &records),
+        340,
+        3,
+        &[0, 3, 6, 1, 2, 4, 5, 7, 8],
+    )?;
+    same("links", links(&tree, 0), [1.0, 2.0])
+}
+
+fn corner_of_grid_4() -> Result<(), String> {
+    let mut records: Vec<Record> = (0..8).map(|i| record(i & 1, i >> 1 & 1, i >> 2)).collect();
+    records.push(record(0, 3, 0));
+    let tree = tree(
+        &point_file(Header::cube(4, 4.0), &records),
+        500,
+        5,
+        &[0, 1, 2, 3, 4, 5, 6, 7, 8],
+    )?;
+    same("root's right link", links(&tree, 0)[1], -1.0)
+}
+
+/// Where the original is laxer than the library: (192, 5, 0) lands in the slot of (0, 6, 0).
+fn shared_slot() -> Result<(), String> {
+    let (tree, _, order) =
+        shim::build_mascon_tree(&point_file(Header::cube(192, 192.0), &[record(192, 5, 0)]))?;
+    same("order count", order, 1)?;
+    same(
+        "centre of mass",
+        [32, 36, 40].map(|at| float_at(&tree, 64 + at)),
+        [192.5, 5.5, 0.5],
+    )
+}
+
+fn ray() -> Result<(), String> {
+    let corners = [1.0, -1.0, -1.0, 1.0, 1.0, -1.0, 1.0, 0.0, 1.0];
+    let along_x = |origin| shim::ray_triangle_t(origin, [1.0, 0.0, 0.0], &corners);
+    same("distance", along_x([0.0; 3]), 1.0)?;
+    same("from beyond", along_x([2.0, 0.0, 0.0]), -1.0)
+}
+
+/// Crossings at 10, 10.000009, 10.000018: the first and the last remain.
+fn near_crossings() -> Result<(), String> {
+    let wall = |x: f64| [x, -1.0, -1.0, x, 1.0, -1.0, x, 0.0, 1.0];
+    let walls = [wall(10.0), wall(10.000009), wall(10.000018)];
+    let inside = |walls: &[[f64; 9]]| shim::inside(walls.as_flattened(), &[[0.0; 3]]);
+    same("three walls", inside(&walls), vec![false])?;
+    same("two walls", inside(&walls[..2]), vec![true])
+}
+
+fn density() -> Result<(), String> {
+    same(
+        "at the centre",
+        shim::density_at(&KERNEL, [1.0, 2.0, 3.0]),
+        7.0,
+    )?;
+    same(
+        "at 2 from it",
+        shim::density_at(&KERNEL, [1.0, 4.0, 3.0]),
+        3.5,
+    )?;
+    same("of no kernels", shim::density_at(&[], [0.0; 3]), 0.0)
+}
+
+fn reading() -> Result<(), String> {
+    let file = point_file(Header::cube(5, 2.5), &[record(1, 2, 3), record(4, 0, 4)]);
+    let points = shim::parse_mascon_bytes(&file)?;
+    same("grid and count", (points.grid, points.count), (5, 2))?;
+    let lone = [
+        points.constant_density,
+        points.cell_volume,
+        points.cauchy_scale,
+    ];
+    same("density, volume, scale", lone, [1190.0, 1.0, 1.0])?;
+    same("box", (points.min, points.max), ([0.0; 3], [2.5; 3]))?;
+    same(
+        "records",
+        points.records,
+        vec![([1, 2, 3], [1.0, 2.0]), ([4, 0, 4], [1.0, 2.0])],
+    )?;
+    same(
+        "of a short file",
+        shim::parse_mascon_bytes(&file[..95]).is_err(),
+        true,
+    )
+}
+
+/// A file of the right grid size comes out and the tree has all its cells; up to grid size 64 they are
+/// those whose middles are inside.
+fn filling() -> Result<(), String> {
+    for g in original::GRID_SIZES {
+        let file = original::build_mascon(g, &TETRAHEDRON, &KERNEL, &KERNEL, 100.0, 1190.0)?;
+        let points = shim::parse_mascon_bytes(&file)?;
+        same("grid", points.grid, g)?;
+        same("bytes", file.len(), 64 + 16 * points.count)?;
+        if g <= 64 {
+            let cells = points.records.iter().map(|(cell, _)| *cell).collect();
+            same(&format!("cells at grid size {g}"), cells, cells_inside(g))?;
+        }
+        let (_, _, order) = shim::build_mascon_tree(&file)?;
+        same("order count", order, points.count)?;
+    }
+    Ok(())
+}
+
+/// The cells, in cell order, whose middles are inside the tetrahedron.
+fn cells_inside(g: usize) -> Vec<[u32; 3]> {
+    let (min, cell) = (-6.0 / g as f64, (12.0 + 12.0 / g as f64) / g as f64);
+    let middle = |i: u32| min + (f64::from(i) + 0.5) * cell;
+    let n = g as u32;
+    let cells: Vec<[u32; 3]> = (0..n * n * n)
+        .map(|i| [i % n, i / n % n, i / n / n])
+        .collect();
+    let middles: Vec<[f64; 3]> = cells.iter().map(|cell| cell.map(middle)).collect();
+    let inside = shim::inside(&TETRAHEDRON, &middles);
+    cells
+        .into_iter()
+        .zip(inside)
+        .filter(|(_, yes)| *yes)
+        .map(|(cell, _)| cell)
+        .collect()
+}
+
+#[cfg(test)]
+mod tests {
+    #[test]
+    fn models() {
+        for (name, model) in super::MODELS {
+            assert_eq!(model(), Ok(()), "{name}");
+        }
+    }
+}

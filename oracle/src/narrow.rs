@@ -1,0 +1,381 @@
+//! Narrowing binary64 to binary32: the proved library against Rust's `as f32`.
+//!
+//! A case is a binary64 pattern. Rust leaves a NaN's answer open; the library's is 0x7fc00000.
+
+use crate::ffi;
+use crate::report::{Found, Report};
+use crate::rng::Rng;
+
+pub(crate) const QUIET_NAN: u32 = 0x7fc0_0000;
+
+const SIGN: u64 = 1 << 63;
+const FRACTION_BITS: u32 = 52;
+const FRACTION: u64 = (1 << FRACTION_BITS) - 1;
+const EXPONENTS: u64 = 2048;
+
+/// The exponent field of 2^-126, binary32's least normal number.
+const LEAST_NORMAL: u64 = 1023 - 126;
+/// The exponent field of 2^-150: half of binary32's least subnormal number.
+const HALF_OF_LEAST: u64 = 1023 - 150;
+/// The exponent field of 2^127, the last of binary32.
+const LAST_NORMAL: u64 = 1023 + 127;
+
+/// 2^128 − 2^103: from here on narrowing gives infinity.
+const OVERFLOW: u64 = (LAST_NORMAL << FRACTION_BITS) | (FRACTION - 0x0fff_ffff);
+
+/// Magnitudes at which the kind of answer changes.
+const EDGES: [u64; 8] = [
+    OVERFLOW,
+    (LAST_NORMAL + 1) << FRACTION_BITS, // 2^128
+    OVERFLOW - (1 << 28),               // binary32's greatest
+    LEAST_NORMAL << FRACTION_BITS,
+    (LEAST_NORMAL << FRACTION_BITS) - (1 << 29), // a half unit below it, the last subnormal tie
+    (HALF_OF_LEAST + 1) << FRACTION_BITS,        // binary32's least
+    HALF_OF_LEAST << FRACTION_BITS,
+    0,
+];
+
+/// Random patterns of each class.
+const DRAWS: u64 = 10_000_000;
+
+/// The answer that the library owes.
+pub(crate) fn expected(pattern: u64) -> u32 {
+    let x = f64::from_bits(pattern);
+    if x.is_nan() {
+        QUIET_NAN
+    } else {
+        (x as f32).to_bits()
+    }
+}
+
+pub(crate) fn differs(pattern: u64) -> bool {
+    ffi::narrow(pattern) != u64::from(expected(pattern))
+}
+
+/// A class of random patterns.
+pub(crate) struct Class {
+    pub(crate) name: &'static str,
+    pub(crate) draw: fn(&mut Rng) -> u64,
+}
+
+pub(crate) const CLASSES: [Class; 7] = [
+    Class {
+        name: "any bits",
+        draw: Rng::bits,
+    },
+    Class {
+        name: "normal results",
+        draw: |rng| with_exponent(rng, LEAST_NORMAL, LAST_NORMAL),
+    },
+    Class {
+        name: "subnormal results",
+        draw: |rng| with_exponent(rng, HALF_OF_LEAST - 1, LEAST_NORMAL - 1),
+    },
+    Class {
+        name: "near ties",
+        draw: near_tie,
+    },
+    Class {
+        name: "overflow edge",
+        draw: |rng| near(rng, OVERFLOW),
+    },
+    Class {
+        name: "binary64 subnormals",
+        draw: |rng| sign(rng) | cut(rng),
+    },
+    Class {
+        name: "NaNs and infinities",
+        draw: not_finite,
+    },
+];
+
+fn sign(rng: &mut Rng) -> u64 {
+    rng.bits() & SIGN
+}
+
+/// A fraction of any length: its leading digits are 0.
+fn cut(rng: &mut Rng) -> u64 {
+    let zeros = rng.below(u64::from(FRACTION_BITS) + 1);
+    (rng.bits() & FRACTION) >> zeros
+}
+
+/// An exponent field from `low` through `high`; sign and fraction are free.
+fn with_exponent(rng: &mut Rng, low: u64, high: u64) -> u64 {
+    (rng.bits() & (SIGN | FRACTION)) | (rng.range(low, high) << FRACTION_BITS)
+}
+
+/// A few units of binary64 from a magnitude, or many.
+fn near(rng: &mut Rng, magnitude: u64) -> u64 {
+    let distance = cut(rng) >> 1;
+    let shifted = if rng.bits() & 1 == 0 {
+        magnitude + distance
+    } else {
+        magnitude - distance
+    };
+    sign(rng) | shifted
+}
+
+/// At most two units of binary64 from the midpoint of two neighbours in binary32, one in four of them subnormal.
+fn near_tie(rng: &mut Rng) -> u64 {
+    let end = if rng.bits() & 3 == 0 {
+        0x0080_0000
+    } else {
+        0x7f7f_ffff
+    };
+    let below = rng.below(end) as u32;
+    let widened = |pattern: u32| f64::from(f32::from_bits(pattern));
+    let midpoint = ((widened(below) + widened(below + 1)) * 0.5).to_bits();
+    sign(rng) | (midpoint + rng.range(0, 4) - 2)
+}
+
+/// An infinity once in eight, else a NaN with a payload of any length.
+fn not_finite(rng: &mut Rng) -> u64 {
+    let fraction = match rng.below(8) {
+        0 => 0,
+        1..4 => cut(rng),
+        _ => rng.bits() & FRACTION,
+    };
+    sign(rng) | ((EXPONENTS - 1) << FRACTION_BITS) | fraction
+}
+
+/// For every exponent and sign: each single digit, its complement, ones above and below each digit,
+/// and each digit as the first one dropped: a half unit, with the digits kept even, odd, all ones and
+/// alternating, and the two patterns on either side.
+pub(crate) fn at_every_exponent(mut visit: impl FnMut(u64)) {
+    for field in 0..EXPONENTS {
+        let exponent = field << FRACTION_BITS;
+        for digit in 0..FRACTION_BITS {
+            let unit = 1u64 << digit;
+            for fraction in [unit, FRACTION ^ unit, unit - 1, FRACTION & !(unit - 1)] {
+                both_signs(exponent | fraction, &mut visit);
+            }
+            let kept = FRACTION & !(2 * unit - 1);
+            for fraction in [0, kept & (2 * unit), kept, kept & 0x5555_5555_5555_5555] {
+                around(exponent | fraction | unit, 2, &mut visit);
+            }
+        }
+    }
+}
+
+/// The patterns within 4,096 of each edge.
+pub(crate) fn at_every_edge(mut visit: impl FnMut(u64)) {
+    near_edges(4096, &mut visit);
+}
+
+/// The patterns within `distance` of each edge, both signs.
+pub(crate) fn near_edges(distance: u64, visit: &mut impl FnMut(u64)) {
+    for edge in EDGES {
+        around(edge, distance, visit);
+    }
+}
+
+/// The ties of each binary32 exponent, with kept digits from `rng`, even and odd, and the patterns beside them.
+pub(crate) fn ties_by_exponent(rng: &mut Rng, visit: &mut impl FnMut(u64)) {
+    for field in HALF_OF_LEAST..=LAST_NORMAL {
+        let dropped = 29 + LEAST_NORMAL.saturating_sub(field);
+        // The first digit dropped may be the leading one, which the fraction does not hold.
+        let half = (1u64 << (dropped - 1)) & FRACTION;
+        let kept = rng.bits() & FRACTION & !((1u64 << dropped) - 1);
+        let last = (1u64 << dropped) & FRACTION;
+        for fraction in [kept & !last, kept | last] {
+            let tie = sign(rng) | (field << FRACTION_BITS) | fraction | half;
+            visit(tie);
+            visit(tie + 1);
+            visit(tie - 1);
+        }
+    }
+}
+
+fn around(magnitude: u64, distance: u64, visit: &mut impl FnMut(u64)) {
+    for shifted in magnitude.saturating_sub(distance)..=(magnitude + distance).min(SIGN - 1) {
+        both_signs(shifted, visit);
+    }
+}
+
+fn both_signs(magnitude: u64, visit: &mut impl FnMut(u64)) {
+    visit(magnitude);
+    visit(SIGN | magnitude);
+}
+
+/// The mismatches seen so far, and the least of them by set bits, then by pattern.
+struct Search<F> {
+    fails: F,
+    cases: u64,
+    mismatches: u64,
+    least: Option<(u32, u64)>,
+}
+
+impl<F: Fn(u64) -> bool> Search<F> {
+    fn new(fails: F) -> Self {
+        Self {
+            fails,
+            cases: 0,
+            mismatches: 0,
+            least: None,
+        }
+    }
+
+    fn visit(&mut self, pattern: u64) {
+        self.cases += 1;
+        if (self.fails)(pattern) {
+            self.mismatches += 1;
+            let size = (pattern.count_ones(), pattern);
+            self.least = Some(self.least.map_or(size, |least| least.min(size)));
+        }
+    }
+
+    fn smallest(&self) -> Option<u64> {
+        self.least.map(|(_, pattern)| shrink(pattern, &self.fails))
+    }
+
+    fn found(&self) -> Found {
+        Found {
+            cases: self.cases,
+            mismatches: self.mismatches,
+            smallest: self.smallest().map(describe),
+        }
+    }
+}
+
+/// Clears or lowers bits of a failing pattern as long as it fails.
+fn shrink(mut pattern: u64, fails: impl Fn(u64) -> bool) -> u64 {
+    loop {
+        let set = (0..64).rev().filter(|bit| pattern >> bit & 1 == 1);
+        let cleared = set.clone().map(|bit| pattern ^ (1 << bit));
+        let lowered = set.flat_map(|bit| (0..bit).map(move |to| (bit, to)));
+        let lowered = lowered
+            .filter(|(_, to)| pattern >> to & 1 == 0)
+            .map(|(bit, to)| pattern ^ (1 << bit) ^ (1 << to));
+        match cleared.chain(lowered).find(|&smaller| fails(smaller)) {
+            Some(smaller) => pattern = smaller,
+            None => return pattern,
+        }
+    }
+}
+
+fn describe(pattern: u64) -> String {
+    format!(
+        "{pattern:#018x} ({:e}): library {:#010x}, expected {:#010x}",
+        f64::from_bits(pattern),
+        ffi::narrow(pattern),
+        expected(pattern)
+    )
+}
+
+/// Compares patterns that come from anywhere.
+pub(crate) fn compare(patterns: impl Iterator<Item = u64>) -> Found {
+    let mut search = Search::new(differs);
+    patterns.for_each(|pattern| search.visit(pattern));
+    search.found()
+}
+
+pub(crate) fn check(report: &mut Report) {
+    report.run("narrow: every exponent", || {
+        let mut search = Search::new(differs);
+        at_every_exponent(|pattern| search.visit(pattern));
+        search.found()
+    });
+    report.run("narrow: edges", || {
+        let mut search = Search::new(differs);
+        at_every_edge(|pattern| search.visit(pattern));
+        search.found()
+    });
+    for (seed, class) in (1..).zip(&CLASSES) {
+        report.run(&format!("narrow: {}", class.name), || {
+            let mut rng = Rng::new(seed);
+            compare((0..DRAWS).map(|_| (class.draw)(&mut rng)))
+        });
+    }
+}
+
+#[cfg(test)]
+mod tests {
+    use super::*;
+
+    fn power(exponent: i32) -> f64 {
+        2f64.powi(exponent)
+    }
+
+    /// The starred models of narrowing, of the library and of Rust.
+    #[test]
+    fn models() {
+        let models = [
+            (1.0 + power(-24), 0x3f80_0000),
+            (1.0 + 3.0 * power(-24), 0x3f80_0002),
+            (3.0 * power(-150), 0x0000_0002),
+            (power(128) - power(103), 0x7f80_0000),
+        ];
+        for (x, answer) in models {
+            assert_eq!(expected(x.to_bits()), answer);
+            assert_eq!(ffi::narrow(x.to_bits()), u64::from(answer));
+        }
+    }
+
+    #[test]
+    fn edges_are_what_they_say() {
+        let values = [
+            power(128) - power(103),
+            power(128),
+            f64::from(f32::MAX),
+            power(-126),
+            power(-126) - power(-150),
+            power(-149),
+            power(-150),
+            0.0,
+        ];
+        assert_eq!(EDGES, values.map(f64::to_bits));
+    }
+
+    /// Each class holds to its name, judged by value and not by its digits.
+    #[test]
+    fn classes_are_what_they_say() {
+        let all = |class: usize, holds: fn(f64) -> bool| {
+            let mut rng = Rng::new(1);
+            (0..10_000).all(|_| holds(f64::from_bits((CLASSES[class].draw)(&mut rng))))
+        };
+        assert!(all(1, |x| x.abs() >= power(-126) && x.abs() < power(128)));
+        assert!(all(2, |x| x.abs() >= power(-151) && x.abs() < power(-126)));
+        assert!(all(4, |x| x.abs() >= power(127) * 0.5 && x.abs() < power(129)));
+        assert!(all(5, |x| x.abs() < f64::MIN_POSITIVE));
+        assert!(all(6, |x| !x.is_finite()));
+    }
+
+    /// At an exact tie both neighbours are equally far; one unit beside it they are not.
+    #[test]
+    fn ties_are_ties() {
+        let mut visited = 0;
+        ties_by_exponent(&mut Rng::new(1), &mut |pattern| {
+            let x = f64::from_bits(pattern & !SIGN);
+            let near = x as f32;
+            let gap = |to: f32| (f64::from(to) - x).abs();
+            let tie = gap(near) == gap(near.next_down()) || gap(near) == gap(near.next_up());
+            assert_eq!(tie, visited % 3 == 0, "{pattern:#018x}");
+            visited += 1;
+        });
+        assert_eq!(visited, 278 * 6);
+    }
+
+    #[test]
+    fn patterns_are_the_same_on_every_run() {
+        for class in &CLASSES {
+            let draw = || {
+                let mut rng = Rng::new(3);
+                (0..1000)
+                    .map(|_| (class.draw)(&mut rng))
+                    .collect::<Vec<_>>()
+            };
+            assert_eq!(draw(), draw(), "{}", class.name);
+        }
+    }
+
+    /// A made-up fault is found and shrunk to the least pattern that shows it.
+    #[test]
+    fn smallest_failure() {
+        let mut search = Search::new(|pattern: u64| pattern & SIGN != 0 && pattern & 0xff00 != 0);
+        let mut rng = Rng::new(1);
+        (0..1000).for_each(|_| search.visit(rng.bits()));
+        assert!(search.mismatches > 400);
+        assert_eq!(search.smallest(), Some(SIGN | 0x100));
+        assert_eq!(Search::new(|_| false).smallest(), None);
+    }
+}
