@@ -4,18 +4,18 @@ use mathlib.Core.Path.{_≡_, refl, sym, ap, _∙_, subst}
 use mathlib.Core.Logic.{_⊎_, inl, inr}
 use mathlib.Core.Bool.{Bool, true, false, not, cond}
 use Prim.Native.Nat.{ℕ, zero, suc, _+_, _-_, _*_, _/_, _%_, _^_, _≤_, _<_, min}
-use native.Mathlib.Nat.{le-trans, le-of-eq, lt-of-lt-of-le, lt-of-le-of-lt, lt-of-not-le, lt-irrefl, eq-or-lt-of-le, zero-lt-suc, add-mul, suc-mul, one-mul, add-zero, mul-comm, mul-assoc, mul-right-comm, mul-pos, mul-le-mul-right, mul-lt-mul-of-pos-right, mod-lt, mod-eq-of-lt, mul-sub, pow-succ', add-sub-of-le}
+use native.Mathlib.Nat.{le-trans, le-of-eq, le-of-lt, lt-of-lt-of-le, lt-of-le-of-lt, lt-of-not-le, lt-irrefl, eq-or-lt-of-le, zero-lt-suc, add-mul, suc-mul, one-mul, add-zero, mul-comm, mul-assoc, mul-pos, mul-le-mul-right, mul-le-mul-left, mul-lt-mul-of-pos-right, le-of-mul-le-mul-right, lt-of-mul-lt-mul-right, mod-lt, mod-eq-of-lt, mul-sub, pow-succ', add-sub-of-le, min-eq-left, min-eq-right, min-le-right}
 use native.Mathlib.Omega.{arith}
 use lib.Dec.{T, leb, ltb, eqb, leb→le, nleb→lt, ltb→lt, nltb→le, eqb→eq, not-T, eqb·suc-zero}
 use lib.Arith.{digits-div, digits-mod}
-use lib.Pow.{pow-add, pow-pos, pow-mono}
+use lib.Pow.{pow-add, pow-pos, pow-mono, pow-lt}
 use lib.Ieee.Nearest.{closest, closest-same}
 use lib.Ieee.Bits.{is-true, is-false, cond-no}
 use lib.Ieee.Fits.{eq→eqb}
 use Rattle.float.specs.Layout.{bias, full, lowest, infinity, quiet, signField, expField, fracField, digitsOf, magnitude}
 use Rattle.float.specs.Rule.{Quantum, Nearest, Rounds, Narrows, threshold}
 use Rattle.float.specs.Narrow.{narrow, narrowFinite}
-use Rattle.float.proofs.Rounding.{closest-nearest, nearest-le, nearest-ge, half-below, half-above}
+use Rattle.float.proofs.Rounding.{closest-nearest, nearest-le, nearest-ge, half-above}
 
 -- ---- powers of two
 pub pow-eq : {a b : ℕ} → a ≡ b → 2 ^ a ≡ 2 ^ b
@@ -181,21 +181,118 @@ module _ (e f k q : ℕ) (hi : q ≤ 2 ^ suc f) (lo : (k ≡ 0) ⊎ (2 ^ f ≤ q
       go true a b (inr d) = absurd (lt-irrefl q (lt-of-lt-of-le (a tt) d))
       go false a b d = elim (eq-or-lt-of-le hi) [ inl z ↦ large z | inr l ↦ medium (b tt) l ]
 
--- ---- the infinity's pattern is reached from the threshold on
--- H is 2 ^ f and W is 2 ^ (2 * B - 2) * c, for the bias B. `omega` sees them, and H * W, as plain numbers.
+-- ---- three cases
+pub three-ways : (a b : ℕ) → (a < b) ⊎ ((a ≡ b) ⊎ (b < a))
+three-ways a b = go (ltb a b) (ltb→lt a b) (nltb→le a b)
+  where
+    go : (t : Bool) → (T t → a < b) → (T (not t) → b ≤ a) → (a < b) ⊎ ((a ≡ b) ⊎ (b < a))
+    go true p q = inl (p tt)
+    go false p q = elim (eq-or-lt-of-le (q tt)) [ inl z ↦ inr (inl (sym z)) | inr l ↦ inr (inr l) ]
 
--- (2 * B - 2) + 2 = 2 * B, for B at least 1
-module _ (f c B k : ℕ) (b1 : 1 ≤ B) where
-  abbrev W : ℕ
-  W = 2 ^ (2 * B - 2) * c
+-- ---- the pattern k * 2 ^ f + q is below the infinity's exactly where q * 2 ^ k is below 2 ^ (f + 2 * B), for the bias B
+module _ (f B k q : ℕ) (b1 : 1 ≤ B) (hi : q ≤ 2 ^ suc f) (lo : (k ≡ 0) ⊎ (2 ^ f ≤ q)) where
+  abbrev H : ℕ
+  H = 2 ^ f
 
-  -- the threshold, times c
-  thr : (2 ^ (B + f - 1 + B + 1) - 2 ^ (B + f - 1 + B - (f + 1))) * c ≡ 2 ^ f * W * 4 - W
+  hi' : q ≤ H + H
+  hi' = le-trans hi (le-of-eq (pow-succ' 2 f ∙ go (2 ^ f)))
+    where
+      go : (a : ℕ) → 2 * a ≡ a + a
+      go a = omega arith
+
+  wide : (2 * B + 1) * H ≡ 2 * B * H + H
+  wide = add-mul (2 * B) 1 H ∙ ap (λ (y : ℕ). 2 * B * H + y) (one-mul H)
+
+  at : k ≡ 2 * B - 1 → k * H + H ≡ 2 * B * H
+  at z = sym (suc-mul k H) ∙ ap (λ (y : ℕ). y * H) (up-one z)
+    where
+      up-one : k ≡ 2 * B - 1 → suc k ≡ 2 * B
+      up-one p = omega arith
+
+  -- 2 ^ (f + 2 * B) is 2 * H quanta of this size
+  top-at : k ≡ 2 * B - 1 → 2 ^ (f + 2 * B) ≡ 2 ^ suc f * 2 ^ k
+  top-at z = pow-eq (same z) ∙ sym (pow-2 (suc f) k)
+    where
+      same : k ≡ 2 * B - 1 → f + 2 * B ≡ suc f + k
+      same p = omega arith
+
+  q-over : 2 * B ≤ k → H ≤ q
+  q-over l = go lo
+    where
+      clash : 2 * B ≤ k → k ≡ 0 → ⊥
+      clash p z = omega arith
+
+      go : (k ≡ 0) ⊎ (2 ^ f ≤ q) → H ≤ q
+      go (inl z) = absurd (clash l z)
+      go (inr d) = d
+
+  past : 2 * B - 1 < k → 2 * B ≤ k
+  past l = omega arith
+
+  pub finite-of : q * 2 ^ k < 2 ^ (f + 2 * B) → k * H + q < (2 * B + 1) * H
+  finite-of h = go (three-ways k (2 * B - 1))
+    where
+      lower : k < 2 * B - 1 → k * H + H + H ≤ 2 * B * H
+      lower l = le-trans (le-of-eq (sym (suc-mul (suc k) H ∙ ap (λ (y : ℕ). y + H) (suc-mul k H)))) (mul-le-mul-right H (two-up l))
+        where
+          two-up : k < 2 * B - 1 → suc (suc k) ≤ 2 * B
+          two-up p = omega arith
+
+      sum-lower : (a b d e : ℕ) → 0 < d → a + d + d ≤ b → q ≤ d + d → e ≡ b + d → a + q < e
+      sum-lower a b d e p l r z = omega arith
+
+      sum-at : (a b d e w : ℕ) → a + d ≡ b → q < w → w ≡ 2 * d → e ≡ b + d → a + q < e
+      sum-at a b d e w l r u z = omega arith
+
+      go : (k < 2 * B - 1) ⊎ ((k ≡ 2 * B - 1) ⊎ (2 * B - 1 < k)) → k * H + q < (2 * B + 1) * H
+      go (inl l) = sum-lower (k * H) (2 * B * H) H ((2 * B + 1) * H) (pow-pos f) (lower l) hi' wide
+      go (inr (inl z)) = sum-at (k * H) (2 * B * H) H ((2 * B + 1) * H) (2 ^ suc f) (at z) (lt-of-mul-lt-mul-right (2 ^ k) (lt-of-lt-of-le h (le-of-eq (top-at z)))) (pow-succ' 2 f) wide
+      go (inr (inr l)) =
+          absurd (lt-irrefl (q * 2 ^ k) (lt-of-lt-of-le h
+          (le-trans (le-of-eq (sym (pow-2 f (2 * B)))) (le-trans (mul-le-mul-right (2 ^ (2 * B)) (q-over (past l))) (mul-le-mul-left q (pow-mono (past l)))))))
+
+  pub infinite-of : 2 ^ (f + 2 * B) ≤ q * 2 ^ k → (2 * B + 1) * H ≤ k * H + q
+  infinite-of h = go (three-ways k (2 * B - 1))
+    where
+      sum-at : (a b d e w : ℕ) → a + d ≡ b → w ≤ q → w ≡ 2 * d → e ≡ b + d → e ≤ a + q
+      sum-at a b d e w l r u z = omega arith
+
+      sum-over : (a b d e : ℕ) → b ≤ a → d ≤ q → e ≡ b + d → e ≤ a + q
+      sum-over a b d e l r z = omega arith
+
+      short : k < 2 * B - 1 → suc f + k < f + 2 * B
+      short l = omega arith
+
+      go : (k < 2 * B - 1) ⊎ ((k ≡ 2 * B - 1) ⊎ (2 * B - 1 < k)) → (2 * B + 1) * H ≤ k * H + q
+      go (inl l) = absurd (lt-irrefl (2 ^ (f + 2 * B)) (lt-of-le-of-lt h (lt-of-le-of-lt (mul-le-mul-right (2 ^ k) hi) (lt-of-le-of-lt (le-of-eq (pow-2 (suc f) k)) (pow-lt (short l))))))
+      go (inr (inl z)) = sum-at (k * H) (2 * B * H) H ((2 * B + 1) * H) (2 ^ suc f) (at z) (le-of-mul-le-mul-right (le-trans (le-of-eq (sym (top-at z))) h) (pow-pos k)) (pow-succ' 2 f) wide
+      go (inr (inr l)) = sum-over (k * H) (2 * B * H) H ((2 * B + 1) * H) (mul-le-mul-right H (past l)) (q-over (past l)) wide
+
+-- ---- and q * 2 ^ k reaches 2 ^ (f + 2 * B) from the threshold on
+-- F is 2 ^ f and Y is 2 ^ (2 * B - 2) * c, for the bias B. `omega` sees them, and F * Y, as plain numbers.
+module _ {f n c k q : ℕ} (B : ℕ) (b1 : 1 ≤ B) (C : 0 < c) (Q : Quantum (suc f) n c k) (N : Nearest n (c * 2 ^ k) q) where
+  abbrev F : ℕ
+  F = 2 ^ f
+
+  abbrev Y : ℕ
+  Y = 2 ^ (2 * B - 2) * c
+
+  F-pos : 0 < F
+  F-pos = pow-pos f
+
+  Y-le : Y ≤ F * Y
+  Y-le = le-trans (le-of-eq (sym (one-mul Y))) (mul-le-mul-right Y F-pos)
+
+  Y-pos : 0 < Y
+  Y-pos = mul-pos (pow-pos (2 * B - 2)) C
+
+  -- the threshold, and 2 ^ (f + 2 * B), times c
+  thr : (2 ^ (B + f - 1 + B + 1) - 2 ^ (B + f - 1 + B - (f + 1))) * c ≡ F * Y * 4 - Y
   thr =
       mul-comm (2 ^ (B + f - 1 + B + 1) - 2 ^ (B + f - 1 + B - (f + 1))) c
       ∙ mul-sub c (2 ^ (B + f - 1 + B + 1)) (2 ^ (B + f - 1 + B - (f + 1)))
-      ∙ ap (λ (y : ℕ). y - c * 2 ^ (B + f - 1 + B - (f + 1))) (ap (λ (y : ℕ). c * y) (pow-eq whole ∙ sym (pow-3 f (2 * B - 2) 2)) ∙ tidy c (2 ^ f) (2 ^ (2 * B - 2)))
-      ∙ ap (λ (y : ℕ). 2 ^ f * W * 4 - y) (ap (λ (y : ℕ). c * y) (pow-eq part) ∙ mul-comm c (2 ^ (2 * B - 2)))
+      ∙ ap (λ (y : ℕ). y - c * 2 ^ (B + f - 1 + B - (f + 1))) (ap (λ (y : ℕ). c * y) (pow-eq whole ∙ sym (pow-3 f (2 * B - 2) 2)) ∙ tidy c F (2 ^ (2 * B - 2)))
+      ∙ ap (λ (y : ℕ). F * Y * 4 - y) (ap (λ (y : ℕ). c * y) (pow-eq part) ∙ mul-comm c (2 ^ (2 * B - 2)))
     where
       whole : B + f - 1 + B + 1 ≡ f + (2 * B - 2) + 2
       whole = omega arith
@@ -204,50 +301,29 @@ module _ (f c B k : ℕ) (b1 : 1 ≤ B) where
       part = omega arith
 
       tidy : (c a w : ℕ) → c * (a * w * 4) ≡ a * (w * c) * 4
-      tidy c a w = sym (mul-assoc c (a * w) 4) ∙ ap (λ (y : ℕ). y * 4) (mul-comm c (a * w) ∙ mul-assoc a w c)
+      tidy c a w = omega arith
 
-  W-pos : 0 < c → 0 < W
-  W-pos C = mul-pos (pow-pos (2 * B - 2)) C
-
-  -- 2 ^ (f + i) * c against H * W, by how i stands to 2 * B
-  at-two : 2 ^ (f + 2 * B) * c ≡ 2 ^ f * W * 4
-  at-two = ap (λ (y : ℕ). y * c) (pow-eq same ∙ sym (pow-3 f (2 * B - 2) 2)) ∙ tidy (2 ^ f) (2 ^ (2 * B - 2))
+  at-two : 2 ^ (f + 2 * B) * c ≡ F * Y * 4
+  at-two = ap (λ (y : ℕ). y * c) (pow-eq same ∙ sym (pow-3 f (2 * B - 2) 2)) ∙ tidy F (2 ^ (2 * B - 2))
     where
       same : f + 2 * B ≡ f + (2 * B - 2) + 2
       same = omega arith
 
       tidy : (a w : ℕ) → a * w * 4 * c ≡ a * (w * c) * 4
-      tidy a w = mul-right-comm (a * w) 4 c ∙ ap (λ (y : ℕ). y * 4) (mul-assoc a w c)
+      tidy a w = omega arith
 
-  unit-is : k ≡ 2 * B - 1 → c * 2 ^ k ≡ W * 2
-  unit-is z = ap (λ (y : ℕ). c * y) (pow-eq (z ∙ same) ∙ sym (pow-2 (2 * B - 2) 1)) ∙ sym (mul-assoc c (2 ^ (2 * B - 2)) 2) ∙ ap (λ (y : ℕ). y * 2) (mul-comm c (2 ^ (2 * B - 2)))
+  -- the unit at k is 2 * B - 1
+  unit : c * 2 ^ (2 * B - 1) ≡ Y * 2
+  unit = ap (λ (y : ℕ). c * y) (pow-eq same ∙ sym (pow-2 (2 * B - 2) 1)) ∙ tidy (2 ^ (2 * B - 2))
     where
       same : 2 * B - 1 ≡ 2 * B - 2 + 1
       same = omega arith
 
-pub three-ways : (a b : ℕ) → (a < b) ⊎ ((a ≡ b) ⊎ (b < a))
-three-ways a b = go (ltb a b) (ltb→lt a b) (nltb→le a b)
-  where
-    go : (t : Bool) → (T t → a < b) → (T (not t) → b ≤ a) → (a < b) ⊎ ((a ≡ b) ⊎ (b < a))
-    go true p q = inl (p tt)
-    go false p q = elim (eq-or-lt-of-le (q tt)) [ inl z ↦ inr (inl (sym z)) | inr l ↦ inr (inr l) ]
-
-module _ {f n c k q : ℕ} (B : ℕ) (b1 : 1 ≤ B) (C : 0 < c) (Q : Quantum (suc f) n c k) (N : Nearest n (c * 2 ^ k) q) where
-  abbrev H : ℕ
-  H = 2 ^ f
-
-  abbrev Y : ℕ
-  Y = 2 ^ (2 * B - 2) * c
-
-  -- at most two times H for each of what k and q bring
-  q-le : q ≤ H + H
-  q-le = le-trans (quanta-le C Q N) (le-of-eq (pow-succ' 2 f ∙ go (2 ^ f)))
-    where
-      go : (a : ℕ) → 2 * a ≡ a + a
-      go a = omega arith
+      tidy : (w : ℕ) → c * (w * 2) ≡ w * c * 2
+      tidy w = omega arith
 
   -- k is 2 * B or more: n is too
-  from-over : 2 * B ≤ k → H * Y * 4 ≤ n
+  from-over : 2 * B ≤ k → F * Y * 4 ≤ n
   from-over l = go (Q .least)
     where
       clash : 2 * B ≤ k → k ≡ 0 → ⊥
@@ -256,147 +332,80 @@ module _ {f n c k q : ℕ} (B : ℕ) (b1 : 1 ≤ B) (C : 0 < c) (Q : Quantum (su
       more : 2 * B ≤ k → f + 2 * B ≤ suc f - 1 + k
       more p = omega arith
 
-      go : (k ≡ 0) ⊎ (2 ^ (suc f - 1 + k) * c ≤ n) → H * Y * 4 ≤ n
+      go : (k ≡ 0) ⊎ (2 ^ (suc f - 1 + k) * c ≤ n) → F * Y * 4 ≤ n
       go (inl z) = absurd (clash l z)
-      go (inr d) = le-trans (le-of-eq (sym (at-two f c B k b1))) (le-trans (mul-le-mul-right c (pow-mono (more l))) d)
+      go (inr d) = le-trans (le-of-eq (sym at-two)) (le-trans (mul-le-mul-right c (pow-mono (more l))) d)
 
   -- k is below 2 * B - 1: n is well below
-  from-under : k < 2 * B - 1 → n < H * Y * 2
-  from-under l =
-      lt-of-lt-of-le (Q .under)
-      (le-trans (mul-le-mul-right c (pow-mono (less l)))
-      (le-of-eq (ap (λ (y : ℕ). y * c) (sym (pow-3 f (2 * B - 2) 1)) ∙ mul-right-comm (2 ^ f * 2 ^ (2 * B - 2)) 2 c ∙ ap (λ (y : ℕ). y * 2) (mul-assoc (2 ^ f) (2 ^ (2 * B - 2)) c))))
+  from-under : k < 2 * B - 1 → n < F * Y * 2
+  from-under l = lt-of-lt-of-le (Q .under) (le-trans (mul-le-mul-right c (pow-mono (less l))) (le-of-eq (ap (λ (y : ℕ). y * c) (sym (pow-3 f (2 * B - 2) 1)) ∙ tidy F (2 ^ (2 * B - 2)))))
     where
       less : k < 2 * B - 1 → suc f + k ≤ f + (2 * B - 2) + 1
       less p = omega arith
 
-  H-pos : 0 < H
-  H-pos = pow-pos f
+      tidy : (a w : ℕ) → a * w * 2 * c ≡ a * (w * c) * 2
+      tidy a w = omega arith
 
-  Y-le : Y ≤ H * Y
-  Y-le = le-trans (le-of-eq (sym (one-mul Y))) (mul-le-mul-right Y H-pos)
-
-  Y-pos : 0 < Y
-  Y-pos = mul-pos (pow-pos (2 * B - 2)) C
-
-  unit : k ≡ 2 * B - 1 → c * 2 ^ k ≡ Y * 2
-  unit z = unit-is f c B k b1 z
-
-  at-unit : k ≡ 2 * B - 1 → Nearest n (Y * 2) q
-  at-unit z = subst (λ (u : ℕ). Nearest n u q) (unit z) N
-
-  VV-pos : 0 < Y * 2
-  VV-pos = mul-pos Y-pos (zero-lt-suc 1)
-
-  pair : (i : ℕ) → (i * H) * (Y * 2) ≡ i * (H * Y * 2)
-  pair i = mul-assoc i H (Y * 2) ∙ ap (λ (y : ℕ). i * y) (sym (mul-assoc H Y 2))
-
-  -- ---- below the threshold
-  stays-below : n < H * Y * 4 - Y → k * H + q < (2 * B + 1) * H
-  stays-below h = go (three-ways k (2 * B - 1))
+  -- ---- below the threshold: else the unit would be above Y * 2, so k at least 2 * B, and n not below
+  stays-below : n < F * Y * 4 - Y → q * 2 ^ k < 2 ^ (f + 2 * B)
+  stays-below h = lt-of-not-le (λ (g : 2 ^ (f + 2 * B) ≤ q * 2 ^ k). no (F * Y) Y Y-le h (from-over (late (large g))))
     where
-      wide : (2 * B + 1) * H ≡ 2 * B * H + H
-      wide = add-mul (2 * B) 1 H ∙ ap (λ (y : ℕ). 2 * B * H + y) (one-mul H)
-
-      lower : k < 2 * B - 1 → k * H + H + H ≤ 2 * B * H
-      lower l = le-trans (le-of-eq (sym (suc-mul (suc k) H ∙ ap (λ (y : ℕ). y + H) (suc-mul k H)))) (mul-le-mul-right H (up l))
-        where
-          up : k < 2 * B - 1 → suc (suc k) ≤ 2 * B
-          up p = omega arith
-
-      sum-lower : (a b d e : ℕ) → 0 < d → a + d + d ≤ b → q ≤ d + d → e ≡ b + d → a + q < e
-      sum-lower a b d e p l r z = omega arith
-
-      at : k ≡ 2 * B - 1 → k * H + H ≡ 2 * B * H
-      at z = sym (suc-mul k H) ∙ ap (λ (y : ℕ). y * H) (up z)
-        where
-          up : k ≡ 2 * B - 1 → suc k ≡ 2 * B
-          up p = omega arith
-
-      -- q is at most 2 * H - 1
-      q-small : k ≡ 2 * B - 1 → q ≤ H + H - 1
-      q-small z = half-below VV-pos (at-unit z) (H + H - 1) (enough ((H + H - 1) * (Y * 2)) (H * Y) Y prod Y-le h)
-        where
-          prod : (H + H - 1) * (Y * 2) + Y * 2 ≡ H * Y * 4
-          prod =
-              sym (suc-mul (H + H - 1) (Y * 2)) ∙ ap (λ (y : ℕ). y * (Y * 2)) (again H H-pos) ∙ pair 2 ∙ four (H * Y)
-            where
-              again : (a : ℕ) → 0 < a → suc (a + a - 1) ≡ 2 * a
-              again a p = omega arith
-
-              four : (a : ℕ) → 2 * (a * 2) ≡ a * 4
-              four a = omega arith
-
-          enough : (p a v : ℕ) → p + v * 2 ≡ a * 4 → v ≤ a → n < a * 4 - v → n * 2 < p * 2 + v * 2
-          enough p a v e l m = omega arith
-
-      sum-at : (a b d e : ℕ) → 0 < d → a + d ≡ b → q ≤ d + d - 1 → e ≡ b + d → a + q < e
-      sum-at a b d e p l r z = omega arith
-
       no : (a v : ℕ) → v ≤ a → n < a * 4 - v → a * 4 ≤ n → ⊥
       no a v l p r = omega arith
 
-      over : 2 * B - 1 < k → 2 * B ≤ k
-      over l = omega arith
+      tidy : (p : ℕ) → q * p * c ≡ q * (c * p)
+      tidy p = omega arith
 
-      go : (k < 2 * B - 1) ⊎ ((k ≡ 2 * B - 1) ⊎ (2 * B - 1 < k)) → k * H + q < (2 * B + 1) * H
-      go (inl l) = sum-lower (k * H) (2 * B * H) H ((2 * B + 1) * H) H-pos (lower l) q-le wide
-      go (inr (inl z)) = sum-at (k * H) (2 * B * H) H ((2 * B + 1) * H) H-pos (at z) (q-small z) wide
-      go (inr (inr l)) = absurd (no (H * Y) Y Y-le h (from-over (over l)))
+      above : (a v p u : ℕ) → v ≤ a → n < a * 4 - v → a * 4 ≤ p → p * 2 ≤ n * 2 + u → v * 2 < u
+      above a v p u l m r s = omega arith
+
+      large : 2 ^ (f + 2 * B) ≤ q * 2 ^ k → Y * 2 < c * 2 ^ k
+      large g = above (F * Y) Y (q * (c * 2 ^ k)) (c * 2 ^ k) Y-le h (le-trans (le-of-eq (sym at-two)) (le-trans (mul-le-mul-right c g) (le-of-eq (tidy (2 ^ k))))) (N .below)
+
+      late : Y * 2 < c * 2 ^ k → 2 * B ≤ k
+      late g = other (λ (l : k ≤ 2 * B - 1). lt-irrefl (Y * 2) (lt-of-lt-of-le g (le-trans (mul-le-mul-left c (pow-mono l)) (le-of-eq unit))))
+        where
+          other : (k ≤ 2 * B - 1 → ⊥) → 2 * B ≤ k
+          other n = omega arith
 
   -- ---- from the threshold on
-  reaches : H * Y * 4 - Y ≤ n → (2 * B + 1) * H ≤ k * H + q
+  reaches : F * Y * 4 - Y ≤ n → 2 ^ (f + 2 * B) ≤ q * 2 ^ k
   reaches h = go (three-ways k (2 * B - 1))
     where
-      wide : (2 * B + 1) * H ≡ 2 * B * H + H
-      wide = add-mul (2 * B) 1 H ∙ ap (λ (y : ℕ). 2 * B * H + y) (one-mul H)
-
       no : (a v : ℕ) → 0 < v → v ≤ a → a * 4 - v ≤ n → n < a * 2 → ⊥
       no a v p l r s = omega arith
 
-      q-large : k ≡ 2 * B - 1 → H + H ≤ q
-      q-large z = half-above VV-pos (at-unit z) (H + H) (even H) (enough ((H + H) * (Y * 2)) (H * Y) Y prod h)
+      q-large : k ≡ 2 * B - 1 → F * 2 ≤ q
+      q-large z = half-above (mul-pos Y-pos (zero-lt-suc 1)) at-unit (F * 2) (even F) (enough ((F * 2) * (Y * 2)) (F * Y) Y (tidy F Y) h)
         where
-          even : (a : ℕ) → (a + a) % 2 ≡ 0
+          at-unit : Nearest n (Y * 2) q
+          at-unit = subst (λ (u : ℕ). Nearest n u q) (ap (λ (y : ℕ). c * 2 ^ y) z ∙ unit) N
+
+          even : (a : ℕ) → a * 2 % 2 ≡ 0
           even a = omega arith
 
-          prod : (H + H) * (Y * 2) ≡ H * Y * 4
-          prod = ap (λ (y : ℕ). y * (Y * 2)) (two H) ∙ pair 2 ∙ four (H * Y)
-            where
-              two : (a : ℕ) → a + a ≡ 2 * a
-              two a = omega arith
-
-              four : (a : ℕ) → 2 * (a * 2) ≡ a * 4
-              four a = omega arith
+          tidy : (a v : ℕ) → a * 2 * (v * 2) ≡ a * v * 4
+          tidy a v = omega arith
 
           enough : (p a v : ℕ) → p ≡ a * 4 → a * 4 - v ≤ n → p * 2 ≤ n * 2 + v * 2
           enough p a v e l = omega arith
 
-      at : k ≡ 2 * B - 1 → k * H + H ≡ 2 * B * H
-      at z = sym (suc-mul k H) ∙ ap (λ (y : ℕ). y * H) (up z)
-        where
-          up : k ≡ 2 * B - 1 → suc k ≡ 2 * B
-          up p = omega arith
+      past : 2 * B - 1 < k → 2 * B ≤ k
+      past l = omega arith
 
-      sum-at : (a b d e : ℕ) → a + d ≡ b → d + d ≤ q → e ≡ b + d → e ≤ a + q
-      sum-at a b d e l r z = omega arith
-
-      over : 2 * B - 1 < k → 2 * B ≤ k
-      over l = omega arith
-
-      sum-over : (a b d e : ℕ) → b ≤ a → d ≤ q → e ≡ b + d → e ≤ a + q
-      sum-over a b d e l r z = omega arith
-
-      q-ge : 2 * B - 1 < k → H ≤ q
+      q-ge : 2 * B - 1 < k → F ≤ q
       q-ge l = elim (quanta-ge C Q N) [ inl z ↦ absurd (clash l z) | inr d ↦ d ]
         where
           clash : 2 * B - 1 < k → k ≡ 0 → ⊥
           clash p z = omega arith
 
-      go : (k < 2 * B - 1) ⊎ ((k ≡ 2 * B - 1) ⊎ (2 * B - 1 < k)) → (2 * B + 1) * H ≤ k * H + q
-      go (inl l) = absurd (no (H * Y) Y Y-pos Y-le h (from-under l))
-      go (inr (inl z)) = sum-at (k * H) (2 * B * H) H ((2 * B + 1) * H) (at z) (q-large z) wide
-      go (inr (inr l)) = sum-over (k * H) (2 * B * H) H ((2 * B + 1) * H) (mul-le-mul-right H (over l)) (q-ge l) wide
+      split : k ≡ 2 * B - 1 → f + 2 * B ≡ f + 1 + k
+      split z = omega arith
+
+      go : (k < 2 * B - 1) ⊎ ((k ≡ 2 * B - 1) ⊎ (2 * B - 1 < k)) → 2 ^ (f + 2 * B) ≤ q * 2 ^ k
+      go (inl l) = absurd (no (F * Y) Y Y-pos Y-le h (from-under l))
+      go (inr (inl z)) = le-trans (le-of-eq (pow-eq (split z) ∙ sym (pow-3 f 1 k))) (mul-le-mul-right (2 ^ k) (q-large z))
+      go (inr (inr l)) = le-trans (le-of-eq (pow-add 2 f (2 * B))) (le-trans (mul-le-mul-right (2 ^ (2 * B)) (q-ge l)) (mul-le-mul-left q (pow-mono (past l))))
 
 -- ---- the rule, on the split lengths
 bias-pos : (e : ℕ) → 2 ≤ e → 1 ≤ bias e
@@ -419,12 +428,6 @@ full-is e h = ap (λ (y : ℕ). y - 1) (pow-eq (same e h) ∙ pow-succ' 2 (e - 1
 
 infinity-is : (e f : ℕ) → 2 ≤ e → infinity e f ≡ (2 * bias e + 1) * 2 ^ f
 infinity-is e f h = ap (λ (y : ℕ). y * 2 ^ f) (full-is e h)
-
-pub min-left : (a b : ℕ) → a < b → min a b ≡ a
-min-left a b h = omega arith
-
-pub min-right : (a b : ℕ) → b ≤ a → min a b ≡ b
-min-right a b h = omega arith
 
 module _ (e f h g j m : ℕ) (E : 2 ≤ e) (M : m < 2 ^ suc (f + h)) (lead : (j ≡ 0) ⊎ (2 ^ (f + h) ≤ m)) where
   abbrev l : ℕ
@@ -454,15 +457,23 @@ module _ (e f h g j m : ℕ) (E : 2 ≤ e) (M : m < 2 ^ suc (f + h)) (lead : (j 
   c-pos : 0 < c
   c-pos = pow-pos (l + (g + h))
 
+  few : q ≤ 2 ^ suc f
+  few = quanta-le c-pos the-quantum the-nearest
+
+  lead-kept : (k ≡ 0) ⊎ (2 ^ f ≤ q)
+  lead-kept = quanta-ge c-pos the-quantum the-nearest
+
   below : n < threshold e f * c → k * 2 ^ f + q < infinity e f
   below t =
-      lt-of-lt-of-le (stays-below (bias e) (bias-pos e E) c-pos the-quantum the-nearest (lt-of-lt-of-le t (le-of-eq (thr f c (bias e) k (bias-pos e E)))))
+      lt-of-lt-of-le (finite-of f (bias e) k q (bias-pos e E) few lead-kept
+      (stays-below (bias e) (bias-pos e E) c-pos the-quantum the-nearest (lt-of-lt-of-le t (le-of-eq (thr (bias e) (bias-pos e E) c-pos the-quantum the-nearest)))))
       (le-of-eq (sym (infinity-is e f E)))
 
   above : threshold e f * c ≤ n → infinity e f ≤ k * 2 ^ f + q
   above t =
       le-trans (le-of-eq (infinity-is e f E))
-      (reaches (bias e) (bias-pos e E) c-pos the-quantum the-nearest (le-trans (le-of-eq (sym (thr f c (bias e) k (bias-pos e E)))) t))
+      (infinite-of f (bias e) k q (bias-pos e E) few lead-kept
+      (reaches (bias e) (bias-pos e E) c-pos the-quantum the-nearest (le-trans (le-of-eq (sym (thr (bias e) (bias-pos e E) c-pos the-quantum the-nearest))) t)))
 
   pub rounds-split : Rounds e f (m * 2 ^ j) c r
   rounds-split = record {
@@ -470,15 +481,12 @@ module _ (e f h g j m : ℕ) (E : 2 ≤ e) (M : m < 2 ^ suc (f + h)) (lead : (j 
     q = q;
     quantum = the-quantum;
     nearest = the-nearest;
-    finite = λ t. subst (λ (y : ℕ). (y < infinity e f) × (magnitude e f y ≡ q * 2 ^ k)) (sym (min-left (k * 2 ^ f + q) (infinity e f) (below t)))
-        (below t, read-back e f k q (quanta-le c-pos the-quantum the-nearest) (quanta-ge c-pos the-quantum the-nearest) (below t));
-    infinite = λ t. min-right (k * 2 ^ f + q) (infinity e f) (above t);
+    finite = λ t. subst (λ (y : ℕ). (y < infinity e f) × (magnitude e f y ≡ q * 2 ^ k)) (sym (min-eq-left {n = k * 2 ^ f + q} {m = infinity e f} (le-of-lt (below t))))
+        (below t, read-back e f k q few lead-kept (below t));
+    infinite = λ t. min-eq-right {n = infinity e f} {m = k * 2 ^ f + q} (above t);
   }
 
 -- ---- the rule, for all lengths
-split-length : (a b : ℕ) → a ≤ b → a + (b - a) ≡ b
-split-length a b h = omega arith
-
 bias-mono : (d e : ℕ) → d ≤ e → bias d ≤ bias e
 bias-mono d e h = go (2 ^ (d - 1)) (2 ^ (e - 1)) (pow-mono (less d e h))
   where
@@ -516,7 +524,7 @@ module _ (ew fw en fn : ℕ) (E : 2 ≤ en) (EE : en ≤ ew) (F : fn ≤ fw) whe
   pub finite-rounds : (x t : ℕ) → t < 2 ^ fw → Rounds en fn (digitsOf fw x t * 2 ^ (x - 1)) (2 ^ lowest ew fw) (narrowFinite ew fw en fn x t)
   unfolding narrowFinite
   finite-rounds x t H =
-      let fw-is : fn + (fw - fn) ≡ fw = split-length fn fw F in
+      let fw-is : fn + (fw - fn) ≡ fw = add-sub-of-le F in
       subst (λ (c : ℕ). Rounds en fn (digitsOf fw x t * 2 ^ (x - 1)) (2 ^ c) (narrowFinite ew fw en fn x t)) (lowest-split ew fw en fn E EE F)
       (rounds-split en fn (fw - fn) (bias ew - bias en) (x - 1) (digitsOf fw x t) E
       (subst (λ (y : ℕ). digitsOf fw x t < 2 ^ suc y) (sym fw-is) (digits-lt-pow fw x t H))
@@ -531,10 +539,7 @@ module _ (ew fw en fn : ℕ) (E : 2 ≤ en) (EE : en ≤ ew) (F : fn ≤ fw) whe
 
   pub finite-le : (x t : ℕ) → narrowFinite ew fw en fn x t ≤ infinity en fn
   unfolding narrowFinite
-  finite-le x t = cap ((x - 1 - (bias ew - bias en)) * 2 ^ fn + closest (digitsOf fw x t) (2 ^ (fw - fn + (bias ew - bias en - (x - 1))))) (infinity en fn)
-    where
-      cap : (a b : ℕ) → min a b ≤ b
-      cap a b = omega arith
+  finite-le x t = min-le-right ((x - 1 - (bias ew - bias en)) * 2 ^ fn + closest (digitsOf fw x t) (2 ^ (fw - fn + (bias ew - bias en - (x - 1))))) (infinity en fn)
 
   pub finite-is : (b : ℕ) → (expField ew fw b ≡ full ew → ⊥)
       → narrow ew fw en fn b ≡ signField ew fw b * 2 ^ (en + fn) + narrowFinite ew fw en fn (expField ew fw b) (fracField fw b)

@@ -4,11 +4,11 @@ use mathlib.Core.Path.{_≡_, refl, sym, ap, _∙_, subst}
 use mathlib.Core.Logic.{_⊎_, inl, inr}
 use mathlib.Core.Bool.{Bool, true, false, not, cond, true≢false}
 use Prim.Native.Nat.{ℕ, zero, suc, _+_, _-_, _*_, _/_, _%_, _^_, _≤_, _<_, min}
-use native.Mathlib.Nat.{le-trans, le-of-eq, lt-of-lt-of-le, lt-of-le-of-lt, lt-of-not-le, lt-irrefl, eq-or-lt-of-le, zero-lt-suc, suc-mul, add-mul, mul-one, one-mul, add-assoc, mul-pos, mul-le-mul-right, mul-le-mul-left, lt-of-mul-lt-mul-right, le-of-mul-le-mul-right, mod-lt, div-one, mul-div-cancel, le-div-iff-mul-le, div-lt-iff-lt-mul, pow-succ'}
+use native.Mathlib.Nat.{le-trans, le-of-eq, le-of-lt, lt-of-lt-of-le, lt-of-le-of-lt, lt-of-not-le, lt-irrefl, eq-or-lt-of-le, zero-lt-suc, suc-mul, mul-one, add-assoc, mul-pos, mul-le-mul-right, mod-lt, div-one, mul-div-cancel, le-div-iff-mul-le, div-lt-iff-lt-mul, pow-succ', min-eq-left, min-eq-right}
 use native.Mathlib.Omega.{arith}
 use lib.Dec.{T, leb, ltb, eqb, leb→le, nleb→lt, ltb→lt, nltb→le, eqb→eq, not-T, lit≤}
 use lib.IntN.{ℤ}
-use lib.Pow.{pow-pos, pow-mono, pow-lt, shl-lt, field}
+use lib.Pow.{pow-pos, pow-mono, shl-lt, field}
 use lib.Ieee.{Float, nan, inf, fin, Format, binary32, binary64, prec, emax, low, up, down, size, odd, units, round, fits, isNan, hid, ones, top, ofFields, ofBits, toBits, nanBits, ne, div}
 use lib.Ieee.Compare.{differs-from-itself}
 use lib.Ieee.Digits.{size-lt, size-le}
@@ -21,7 +21,7 @@ use Rattle.float.specs.Layout.{full, lowest, expField, fracField, digits
 use Rattle.float.specs.Rule.{Quantum, Nearest}
 use Rattle.float.specs.Narrow.{narrow, narrowFinite, narrow64, narrowed}
 use Rattle.float.proofs.Rounding.{closest-nearest}
-use Rattle.float.proofs.Generic.{quanta-le, quanta-ge, quantum-at, closest-at, digits-lt-pow, digits-lead, three-ways, digits-suc, pred-suc, pow-eq, pow-2, min-left, min-right}
+use Rattle.float.proofs.Generic.{quanta-le, quanta-ge, quantum-at, closest-at, digits-lt-pow, digits-lead, digits-suc, pred-suc, pow-eq, pow-2, less-one, finite-of, infinite-of}
 
 -- ---- the rule's quantum is the one that `round` and `toBits` count by `size`
 pub quantum-size : {p n c k : ℕ} → 0 < p → 0 < c → Quantum p n c k → size (n / c) - p ≡ k
@@ -72,10 +72,7 @@ module _ (fr k q : ℕ) (hi : q ≤ 2 ^ suc fr) (lo : (k ≡ 0) ⊎ (2 ^ fr ≤ 
     where
       go : (k ≡ 0) ⊎ (2 ^ fr ≤ q) → (k ≡ 0) ⊎ (2 ^ (suc fr - 1 + k) * 1 ≤ q * 2 ^ k)
       go (inl z) = inl z
-      go (inr d) = inr (le-trans (le-of-eq (mul-one (2 ^ (suc fr - 1 + k)) ∙ pow-eq (same fr k) ∙ sym (pow-2 fr k))) (mul-le-mul-right (2 ^ k) d))
-        where
-          same : (a b : ℕ) → suc a - 1 + b ≡ a + b
-          same a b = omega arith
+      go (inr d) = inr (le-trans (le-of-eq (mul-one (2 ^ (suc fr - 1 + k)) ∙ pow-eq (less-one fr k) ∙ sym (pow-2 fr k))) (mul-le-mul-right (2 ^ k) d))
 
   -- a carry: 2 ^ (fr + 1) quanta are 2 ^ fr of the next size
   whole : q ≡ 2 ^ suc fr → q * 2 ^ k ≡ 2 ^ fr * 2 ^ suc k
@@ -87,7 +84,7 @@ module _ (fr k q : ℕ) (hi : q ≤ 2 ^ suc fr) (lo : (k ≡ 0) ⊎ (2 ^ fr ≤ 
   outer : q ≡ 2 ^ suc fr → Quantum (suc fr) (q * 2 ^ k) 1 (suc k)
   outer z = record {
     under = lt-of-le-of-lt (le-of-eq (whole z ∙ pow-2 fr (suc k))) (lt-of-lt-of-le (less (2 ^ (fr + suc k)) (pow-pos (fr + suc k))) (le-of-eq (sym (mul-one (2 ^ (suc fr + suc k)) ∙ pow-eq (same fr (suc k)) ∙ pow-succ' 2 (fr + suc k)))));
-    least = inr (le-of-eq (mul-one (2 ^ (suc fr - 1 + suc k)) ∙ pow-eq (down-one fr (suc k)) ∙ sym (pow-2 fr (suc k)) ∙ sym (whole z)));
+    least = inr (le-of-eq (mul-one (2 ^ (suc fr - 1 + suc k)) ∙ pow-eq (less-one fr (suc k)) ∙ sym (pow-2 fr (suc k)) ∙ sym (whole z)));
   }
     where
       less : (a : ℕ) → 0 < a → a < 2 * a
@@ -95,9 +92,6 @@ module _ (fr k q : ℕ) (hi : q ≤ 2 ^ suc fr) (lo : (k ≡ 0) ⊎ (2 ^ fr ≤ 
 
       same : (a b : ℕ) → suc a + b ≡ suc (a + b)
       same a b = omega arith
-
-      down-one : (a b : ℕ) → suc a - 1 + b ≡ a + b
-      down-one a b = omega arith
 
   written : (size (q * 2 ^ k) - suc fr) * 2 ^ fr + q * 2 ^ k / 2 ^ (size (q * 2 ^ k) - suc fr) ≡ k * 2 ^ fr + q
   written = elim (eq-or-lt-of-le hi) [
@@ -107,85 +101,6 @@ module _ (fr k q : ℕ) (hi : q ≤ 2 ^ suc fr) (lo : (k ≡ 0) ⊎ (2 ^ fr ≤ 
     where
       twice : (a : ℕ) → 2 * a ≡ a + a
       twice a = omega arith
-
--- ---- the pattern k * 2 ^ fr + q is below the infinity's exactly where q * 2 ^ k is below 2 ^ (fr + 2 * B), for the bias B
-module _ (fr B k q : ℕ) (b1 : 1 ≤ B) (hi : q ≤ 2 ^ suc fr) (lo : (k ≡ 0) ⊎ (2 ^ fr ≤ q)) where
-  abbrev H : ℕ
-  H = 2 ^ fr
-
-  hi' : q ≤ H + H
-  hi' = le-trans hi (le-of-eq (pow-succ' 2 fr ∙ go (2 ^ fr)))
-    where
-      go : (a : ℕ) → 2 * a ≡ a + a
-      go a = omega arith
-
-  wide : (2 * B + 1) * H ≡ 2 * B * H + H
-  wide = add-mul (2 * B) 1 H ∙ ap (λ (y : ℕ). 2 * B * H + y) (one-mul H)
-
-  at : k ≡ 2 * B - 1 → k * H + H ≡ 2 * B * H
-  at z = sym (suc-mul k H) ∙ ap (λ (y : ℕ). y * H) (up-one z)
-    where
-      up-one : k ≡ 2 * B - 1 → suc k ≡ 2 * B
-      up-one p = omega arith
-
-  -- 2 ^ (fr + 2 * B) is 2 * H quanta of this size
-  top-at : k ≡ 2 * B - 1 → 2 ^ (fr + 2 * B) ≡ 2 ^ suc fr * 2 ^ k
-  top-at z = pow-eq (same z) ∙ sym (pow-2 (suc fr) k)
-    where
-      same : k ≡ 2 * B - 1 → fr + 2 * B ≡ suc fr + k
-      same p = omega arith
-
-  q-over : 2 * B ≤ k → H ≤ q
-  q-over l = go lo
-    where
-      clash : 2 * B ≤ k → k ≡ 0 → ⊥
-      clash p z = omega arith
-
-      go : (k ≡ 0) ⊎ (2 ^ fr ≤ q) → H ≤ q
-      go (inl z) = absurd (clash l z)
-      go (inr d) = d
-
-  past : 2 * B - 1 < k → 2 * B ≤ k
-  past l = omega arith
-
-  pub finite-of : q * 2 ^ k < 2 ^ (fr + 2 * B) → k * H + q < (2 * B + 1) * H
-  finite-of h = go (three-ways k (2 * B - 1))
-    where
-      lower : k < 2 * B - 1 → k * H + H + H ≤ 2 * B * H
-      lower l = le-trans (le-of-eq (sym (suc-mul (suc k) H ∙ ap (λ (y : ℕ). y + H) (suc-mul k H)))) (mul-le-mul-right H (two-up l))
-        where
-          two-up : k < 2 * B - 1 → suc (suc k) ≤ 2 * B
-          two-up p = omega arith
-
-      sum-lower : (a b d e : ℕ) → 0 < d → a + d + d ≤ b → q ≤ d + d → e ≡ b + d → a + q < e
-      sum-lower a b d e p l r z = omega arith
-
-      sum-at : (a b d e w : ℕ) → a + d ≡ b → q < w → w ≡ 2 * d → e ≡ b + d → a + q < e
-      sum-at a b d e w l r u z = omega arith
-
-      go : (k < 2 * B - 1) ⊎ ((k ≡ 2 * B - 1) ⊎ (2 * B - 1 < k)) → k * H + q < (2 * B + 1) * H
-      go (inl l) = sum-lower (k * H) (2 * B * H) H ((2 * B + 1) * H) (pow-pos fr) (lower l) hi' wide
-      go (inr (inl z)) = sum-at (k * H) (2 * B * H) H ((2 * B + 1) * H) (2 ^ suc fr) (at z) (lt-of-mul-lt-mul-right (2 ^ k) (lt-of-lt-of-le h (le-of-eq (top-at z)))) (pow-succ' 2 fr) wide
-      go (inr (inr l)) =
-          absurd (lt-irrefl (q * 2 ^ k) (lt-of-lt-of-le h
-          (le-trans (le-of-eq (sym (pow-2 fr (2 * B)))) (le-trans (mul-le-mul-right (2 ^ (2 * B)) (q-over (past l))) (mul-le-mul-left q (pow-mono (past l)))))))
-
-  pub infinite-of : 2 ^ (fr + 2 * B) ≤ q * 2 ^ k → (2 * B + 1) * H ≤ k * H + q
-  infinite-of h = go (three-ways k (2 * B - 1))
-    where
-      sum-at : (a b d e w : ℕ) → a + d ≡ b → w ≤ q → w ≡ 2 * d → e ≡ b + d → e ≤ a + q
-      sum-at a b d e w l r u z = omega arith
-
-      sum-over : (a b d e : ℕ) → b ≤ a → d ≤ q → e ≡ b + d → e ≤ a + q
-      sum-over a b d e l r z = omega arith
-
-      short : k < 2 * B - 1 → suc fr + k < fr + 2 * B
-      short l = omega arith
-
-      go : (k < 2 * B - 1) ⊎ ((k ≡ 2 * B - 1) ⊎ (2 * B - 1 < k)) → (2 * B + 1) * H ≤ k * H + q
-      go (inl l) = absurd (lt-irrefl (2 ^ (fr + 2 * B)) (lt-of-le-of-lt h (lt-of-le-of-lt (mul-le-mul-right (2 ^ k) hi) (lt-of-le-of-lt (le-of-eq (pow-2 (suc fr) k)) (pow-lt (short l))))))
-      go (inr (inl z)) = sum-at (k * H) (2 * B * H) H ((2 * B + 1) * H) (2 ^ suc fr) (at z) (le-of-mul-le-mul-right (le-trans (le-of-eq (sym (top-at z))) h) (pow-pos k)) (pow-succ' 2 fr) wide
-      go (inr (inr l)) = sum-over (k * H) (2 * B * H) H ((2 * B + 1) * H) (mul-le-mul-right H (past l)) (q-over (past l)) wide
 
 -- ---- the bits of a rounded fraction, in either format: fr is its fraction's length, and B its bias
 module _ (f : Format) (fr B : ℕ) (P : prec f ≡ suc fr) (E : emax f ≡ B) (b1 : 1 ≤ B) where
@@ -215,11 +130,11 @@ module _ (f : Format) (fr B : ℕ) (P : prec f ≡ suc fr) (E : emax f ≡ B) (b
           (ap (λ (h : ℕ). (size n - prec f) * h + n / 2 ^ (size n - prec f)) hid-is
           ∙ ap (λ (p : ℕ). (size n - p) * 2 ^ fr + n / 2 ^ (size n - p)) P
           ∙ written fr k q hi lo
-          ∙ sym (min-left (k * 2 ^ fr + q) ((2 * B + 1) * 2 ^ fr) (finite-of fr B k q b1 hi lo (lt-of-lt-of-le (l tt) (le-of-eq (pow-eq over-is))))))
+          ∙ sym (min-eq-left {n = k * 2 ^ fr + q} {m = (2 * B + 1) * 2 ^ fr} (le-of-lt (finite-of fr B k q b1 hi lo (lt-of-lt-of-le (l tt) (le-of-eq (pow-eq over-is)))))))
       go false l g =
           toBits-inf f s
           ∙ ap (λ (x : ℕ). cond s (top f) 0 + x)
-          (ones-is ∙ sym (min-right (k * 2 ^ fr + q) ((2 * B + 1) * 2 ^ fr) (infinite-of fr B k q b1 hi lo (le-trans (le-of-eq (sym (pow-eq over-is))) (g tt)))))
+          (ones-is ∙ sym (min-eq-right {n = (2 * B + 1) * 2 ^ fr} {m = k * 2 ^ fr + q} (infinite-of fr B k q b1 hi lo (le-trans (le-of-eq (sym (pow-eq over-is))) (g tt)))))
 
 round-bits : (s : Bool) (a c k : ℕ) → 0 < c → Quantum 24 (a * 2 ^ 149) c k
     → toBits binary32 (round binary32 s a c) ≡ cond s (2 ^ 31) 0 + min (k * 2 ^ 23 + closest (a * 2 ^ 149) (c * 2 ^ k)) (255 * 2 ^ 23)
@@ -376,8 +291,8 @@ equals-itself (fin s m e) h = tt
 pub is-nan : (x : Float) → ne x x ≡ true → x ≡ nan
 is-nan x h = differs-from-itself x (subst T (sym h) tt)
 
-pub nan-bits : (x : Float) → ne x x ≡ true → 0x7fc0_0000 ≡ narrow64 (toBits binary64 x)
-nan-bits x h = subst (λ (v : Float). 0x7fc0_0000 ≡ narrow64 (toBits binary64 v)) (sym (is-nan x h)) (unfold narrow toBits in refl)
+pub nan-narrows : (x : Float) → ne x x ≡ true → 0x7fc0_0000 ≡ narrow64 (toBits binary64 x)
+nan-narrows x h = subst (λ (v : Float). 0x7fc0_0000 ≡ narrow64 (toBits binary64 v)) (sym (is-nan x h)) (unfold narrow toBits in refl)
 
 pub nan-value : (x : Float) → ne x x ≡ true → div binary32 (ofBits binary32 0) (ofBits binary32 0) ≡ narrowed x
 nan-value x h = subst (λ (v : Float). div binary32 (ofBits binary32 0) (ofBits binary32 0) ≡ narrowed v) (sym (is-nan x h)) (unfold narrowed div ofBits in refl)

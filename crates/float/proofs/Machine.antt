@@ -1,7 +1,7 @@
 -- What the proofs of the functions cite: the machine's shifts and masks as the definitions of `specs/` have them. Plain numbers only. Assumes nothing.
 use mathlib.Core.Path.{_≡_, sym, ap, _∙_, subst}
 use Prim.Native.Nat.{ℕ, zero, suc, _+_, _-_, _*_, _/_, _%_, _^_, _≤_, _<_, min}
-use native.Mathlib.Nat.{le-refl, le-trans, le-of-eq, lt-of-lt-of-le, lt-of-le-of-lt, lt-irrefl, one-mul, mul-le-mul-left, mod-eq-of-lt, div-eq-of-lt, div-mul-le-self, pow-succ'}
+use native.Mathlib.Nat.{le-refl, le-of-lt, min-eq-left, min-eq-right, le-trans, le-of-eq, lt-of-lt-of-le, lt-of-le-of-lt, lt-irrefl, one-mul, mul-le-mul-left, mod-eq-of-lt, div-eq-of-lt, div-mul-le-self, pow-succ'}
 use native.Mathlib.Numerals.{add-one}
 use native.Mathlib.Omega.{arith}
 use lib.Dec.{lit≤}
@@ -11,7 +11,7 @@ use lib.Ieee.Nearest.{closest}
 use Rattle.float.specs.Layout.{digitsOf}
 use Rattle.float.specs.Narrow.{narrowFinite, narrow64}
 use Rattle.float.proofs.Rounding.{closest-nearest, closest-down, closest-tie, closest-up, nearest-le}
-use Rattle.float.proofs.Generic.{min-left, min-right, digits-suc, narrow-infinite, narrow-nan, finite-is, finite-le}
+use Rattle.float.proofs.Generic.{digits-suc, narrow-infinite, narrow-nan, finite-is, finite-le}
 
 -- ---- `nearest_shift`
 -- 1 << d, for a d below the width
@@ -144,10 +144,10 @@ module _ (x t : ℕ) (H : t < 2 ^ 52) where
       above x l = omega arith
 
   pub high-kept : 897 < x → (r : ℕ) → r ≡ closest (t + 2 ^ 52) (2 ^ 29) → (x - 897) * 2 ^ 23 + r < 255 * 2 ^ 23 → (x - 897) * 2 ^ 23 + r ≡ narrowFinite 11 52 8 23 x t
-  high-kept l r e g = sym (high-is l ∙ ap (λ (y : ℕ). min ((x - 897) * 2 ^ 23 + y) (255 * 2 ^ 23)) (sym e) ∙ min-left ((x - 897) * 2 ^ 23 + r) (255 * 2 ^ 23) g)
+  high-kept l r e g = sym (high-is l ∙ ap (λ (y : ℕ). min ((x - 897) * 2 ^ 23 + y) (255 * 2 ^ 23)) (sym e) ∙ min-eq-left {n = (x - 897) * 2 ^ 23 + r} {m = 255 * 2 ^ 23} (le-of-lt g))
 
   pub high-over : 897 < x → (r : ℕ) → r ≡ closest (t + 2 ^ 52) (2 ^ 29) → 255 * 2 ^ 23 ≤ (x - 897) * 2 ^ 23 + r → 255 * 2 ^ 23 ≡ narrowFinite 11 52 8 23 x t
-  high-over l r e g = sym (high-is l ∙ ap (λ (y : ℕ). min ((x - 897) * 2 ^ 23 + y) (255 * 2 ^ 23)) (sym e) ∙ min-right ((x - 897) * 2 ^ 23 + r) (255 * 2 ^ 23) g)
+  high-over l r e g = sym (high-is l ∙ ap (λ (y : ℕ). min ((x - 897) * 2 ^ 23 + y) (255 * 2 ^ 23)) (sym e) ∙ min-eq-right {n = 255 * 2 ^ 23} {m = (x - 897) * 2 ^ 23 + r} g)
 
   pub sum-fits : x < 2047 → (r : ℕ) → r ≡ closest (t + 2 ^ 52) (2 ^ 29) → (x - 897) * 2 ^ 23 + r < 2 ^ 64
   sum-fits l r e = go x r l (le-trans (le-of-eq e) (kept-le (t + 2 ^ 52) 29 (with-lead t H) (le-refl 29)))

@@ -130,16 +130,6 @@ module _ {n u q : ℕ} (U : 0 < u) (N : Nearest n u q) where
       other : (suc q ≤ P → ⊥) → P ≤ q
       other k = omega arith
 
-  -- n / u is below P + 1/2: q is at most P
-  pub half-below : (P : ℕ) → n * 2 < P * u * 2 + u → q ≤ P
-  half-below P h = other (λ (g : suc P ≤ q). no (N .below) (le-trans (le-of-eq (sym (suc-mul P u))) (mul-le-mul-right u g)))
-    where
-      no : q * u * 2 ≤ n * 2 + u → P * u + u ≤ q * u → ⊥
-      no a b = omega arith
-
-      other : (suc P ≤ q → ⊥) → q ≤ P
-      other k = omega arith
-
   -- from P - 1/2 on, for an even P: q is at least P
   pub half-above : (P : ℕ) → P % 2 ≡ 0 → P * u * 2 ≤ n * 2 + u → P ≤ q
   half-above P z h = other (λ (g : suc q ≤ P). at (le-trans (le-of-eq (sym (suc-mul q u))) (mul-le-mul-right u g)) g)

@@ -11,6 +11,10 @@ use lib.Seq.{take-take, take-suc, drop-cons, set-at, getD-take, getD-drop, getD-
 use lib.Arith.{digits-div, digits-mod, mod-mul}
 use Rattle.rym1.specs.Bytes.{word, le, splice}
 
+-- every element is a byte
+abbrev pub AllBytes : List ℕ → Type 0
+AllBytes s = (i : ℕ) → getD s i 0 < 256
+
 -- ---- a number as bytes
 
 pub length-le : (k n : ℕ) → length (le k n) ≡ k
@@ -18,7 +22,7 @@ unfolding le
 length-le zero n = refl
 length-le (suc k) n = ap suc (length-le k (n / 256))
 
-pub le-bytes : (k n i : ℕ) → getD (le k n) i 0 < 256
+pub le-bytes : (k n : ℕ) → AllBytes (le k n)
 unfolding le
 le-bytes zero n i = omega arith
 le-bytes (suc k) n zero = omega arith
@@ -69,7 +73,7 @@ pub word-append-right : (k : ℕ) (p q : List ℕ) (at : ℕ) → word k (p ++ q
 word-append-right k p q at =
     word-same k (p ++ q) q (length p + at) at (λ m b. rw (add-assoc (length p) at m) (getD-append-add p q (at + m) 0))
 
-pub word-lt : (k : ℕ) (s : List ℕ) (at : ℕ) → ((i : ℕ) → getD s i 0 < 256) → word k s at < 256 ^ k
+pub word-lt : (k : ℕ) (s : List ℕ) (at : ℕ) → AllBytes s → word k s at < 256 ^ k
 unfolding word
 word-lt zero s at h = omega arith
 word-lt (suc k) s at h = rw (pow-suc 256 k) (omega (arith, h at, word-lt k s (at + 1) h))
@@ -111,7 +115,7 @@ pub word-le-fits : (k n : ℕ) (p q : List ℕ) (at : ℕ) → length p ≡ at �
 word-le-fits k n p q at e h = word-le k n p q at e ∙ mod-eq-of-lt h
 
 -- what was read is written
-pub le-word : (k : ℕ) (s : List ℕ) (at : ℕ) → ((i : ℕ) → getD s i 0 < 256) → at + k ≤ length s → le k (word k s at) ≡ take k (drop at s)
+pub le-word : (k : ℕ) (s : List ℕ) (at : ℕ) → AllBytes s → at + k ≤ length s → le k (word k s at) ≡ take k (drop at s)
 unfolding word le
 le-word zero s at h b = refl
 le-word (suc k) s at h b =
@@ -209,7 +213,7 @@ pub word-splice-fits : (k n : ℕ) (s : List ℕ) (at : ℕ) → at + k ≤ leng
 word-splice-fits k n s at h b = word-splice-same k n s at h ∙ mod-eq-of-lt b
 
 -- what was read, written again
-pub splice-word : (k : ℕ) (s : List ℕ) (at : ℕ) → ((i : ℕ) → getD s i 0 < 256) → at + k ≤ length s → splice s at (le k (word k s at)) ≡ s
+pub splice-word : (k : ℕ) (s : List ℕ) (at : ℕ) → AllBytes s → at + k ≤ length s → splice s at (le k (word k s at)) ≡ s
 unfolding splice
 splice-word k s at h b =
     let parts : take at s ++ (take k (drop at s) ++ drop k (drop at s)) ≡ s =
@@ -252,21 +256,21 @@ splice-comm s i j u v h b =
 
 -- ---- bytes stay bytes
 
-pub take-bytes : (n : ℕ) (s : List ℕ) → ((i : ℕ) → getD s i 0 < 256) → (i : ℕ) → getD (take n s) i 0 < 256
+pub take-bytes : (n : ℕ) (s : List ℕ) → AllBytes s → AllBytes (take n s)
 take-bytes zero s h i = omega arith
 take-bytes (suc n) [] h i = omega arith
 take-bytes (suc n) (x ∷ s) h zero = h 0
 take-bytes (suc n) (x ∷ s) h (suc i) = take-bytes n s (λ j. h (suc j)) i
 
-pub drop-bytes : (n : ℕ) (s : List ℕ) → ((i : ℕ) → getD s i 0 < 256) → (i : ℕ) → getD (drop n s) i 0 < 256
+pub drop-bytes : (n : ℕ) (s : List ℕ) → AllBytes s → AllBytes (drop n s)
 drop-bytes n s h i = rw (getD-drop n s i 0) (h (n + i))
 
-pub append-bytes : (p q : List ℕ) → ((i : ℕ) → getD p i 0 < 256) → ((i : ℕ) → getD q i 0 < 256) → (i : ℕ) → getD (p ++ q) i 0 < 256
+pub append-bytes : (p q : List ℕ) → AllBytes p → AllBytes q → AllBytes (p ++ q)
 append-bytes [] q hp hq i = hq i
 append-bytes (x ∷ p) q hp hq zero = hp 0
 append-bytes (x ∷ p) q hp hq (suc i) = append-bytes p q (λ j. hp (suc j)) hq i
 
-pub splice-bytes : (s : List ℕ) (at : ℕ) (new : List ℕ) → ((i : ℕ) → getD s i 0 < 256) → ((i : ℕ) → getD new i 0 < 256) → (i : ℕ) → getD (splice s at new) i 0 < 256
+pub splice-bytes : (s : List ℕ) (at : ℕ) (new : List ℕ) → AllBytes s → AllBytes new → AllBytes (splice s at new)
 unfolding splice
 splice-bytes s at new h hn =
     append-bytes (take at s) (new ++ drop (at + length new) s) (take-bytes at s h)

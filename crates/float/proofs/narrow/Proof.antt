@@ -1,11 +1,11 @@
 -- `float::narrow` meets its contract: `x != x` holds of a NaN alone, and off a NaN the bits may be read. Assumes nothing.
 use borrow.Author.Needs.{needs}
-use Rattle.float.proofs.Kit.{equals-itself, nan-bits}
+use Rattle.float.proofs.Kit.{equals-itself, nan-narrows}
 use Rattle.float.proofs.narrow.Statement.{statement}
 use Rattle.float.proofs.narrow.Tie as tie
 
 returns : tie.Need-returns
-returns c = nan-bits (c .before .args .x) (c .if1 .taken)
+returns c = nan-narrows (c .before .args .x) (c .if1 .taken)
 
 float-to-bits-narrow-bits : tie.Need-float-to-bits-narrow-bits
 float-to-bits-narrow-bits c = equals-itself (c .before .args .x) (c .if1 .left)

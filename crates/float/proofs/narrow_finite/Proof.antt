@@ -27,7 +27,7 @@ returns-2 c =
 returns-3 : tie.Need-returns-3
 returns-3 c =
     let s = c .before .before .before in
-    low-gone (s .args .x) (s .args .t) (s .pre .1) (omega arith) (c .before .if2 .taken) (c .if3 .left)
+    low-gone (s .args .x) (s .args .t) (s .pre .1) (omega arith) (c .before .if2 .taken) (omega arith)
 
 sub-sum : tie.Need-sub-sum
 sub-sum c = search needs

@@ -1,5 +1,6 @@
 -- `float::nearest_shift` meets its contract: the remainder against one half picks the case of `closest`. Assumes nothing.
 use borrow.Author.Needs.{needs}
+use native.Mathlib.Omega.{arith}
 use Rattle.float.proofs.Machine.{some-bit, goes-down, goes-up, goes-even, room, room-even}
 use Rattle.float.proofs.nearest_shift.Statement.{statement}
 use Rattle.float.proofs.nearest_shift.Tie as tie
@@ -32,7 +33,7 @@ add-result c =
 returns-2 : tie.Need-returns-2
 returns-2 c =
     let s = c .before .before in
-    goes-up (s .args .m) (s .args .d) (s .pre .0) (s .pre .1) (c .if2 .taken)
+    goes-up (s .args .m) (s .args .d) (s .pre .0) (s .pre .1) (omega arith)
 
 add-result-2 : tie.Need-add-result-2
 add-result-2 c =

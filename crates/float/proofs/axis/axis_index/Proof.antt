@@ -1,7 +1,7 @@
 -- `float::axis::axis_index` meets its contract: the bits may be read off a NaN. Assumes nothing.
 use mathlib.Core.Path.{_∙_, sym, ap, subst}
 use lib.Dec.{T}
-use lib.Ieee.{binary64, fits}
+use lib.Ieee.{binary64}
 use lib.Ieee.Bits.{ofBits-toBits}
 use Rattle.float.specs.Axis.{axisIndex}
 use Rattle.float.proofs.Kit.{equals-itself}

@@ -32,12 +32,12 @@ cast-result c = search needs
 returns-4 : tie.Need-returns-4
 returns-4 c =
     let b = c .before .before .before .before .args .b in
-    under-top b (omega arith) (c .before .before .if2 .left) (c .before .if3 .left) (c .if4 .taken)
+    under-top b (omega arith) (c .before .before .if2 .left) (c .before .if3 .left) (omega arith)
 
 returns-5 : tie.Need-returns-5
 returns-5 c =
     let b = c .before .before .before .before .args .b in
-    at-top b (omega arith) (c .before .before .if2 .left) (c .before .if3 .left) (c .if4 .left)
+    at-top b (omega arith) (c .before .before .if2 .left) (c .before .if3 .left) (omega arith)
 
 pub axis-index-bits-spec : {M : Type 1} → statement M
 axis-index-bits-spec =
