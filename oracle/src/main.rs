@@ -2,16 +2,19 @@
 
 #![deny(unsafe_code)]
 
+mod bench;
 #[allow(unsafe_code)]
 mod ffi;
+mod lent;
 #[cfg(original)]
 mod models;
 mod narrow;
+mod open;
 mod original;
-#[cfg(original)]
 mod points;
 mod report;
 mod rng;
+mod rule;
 mod store;
 
 use report::Report;
@@ -19,19 +22,21 @@ use std::env;
 use std::path::Path;
 use std::process::ExitCode;
 
-const USAGE: &str = "usage: oracle check [all|narrow|stored|original]
-       oracle store narrow FILE
-       oracle verify-stored [narrow] FILE";
+const USAGE: &str = "usage: oracle check [all|narrow|open|stored|original]
+       oracle store narrow|open FILE
+       oracle verify-stored [narrow|open] FILE
+       oracle bench open";
 
 fn main() -> ExitCode {
     let words: Vec<String> = env::args().skip(1).collect();
     let words: Vec<&str> = words.iter().map(String::as_str).collect();
     match words[..] {
         ["check"] => check("all"),
-        ["check", what @ ("all" | "narrow" | "stored" | "original")] => check(what),
+        ["check", what @ ("all" | "narrow" | "open" | "stored" | "original")] => check(what),
         ["store", kind, file] => told(store::store(kind, Path::new(file))),
         ["verify-stored", file] => told(store::verify(stem(file), Path::new(file))),
         ["verify-stored", kind, file] => told(store::verify(kind, Path::new(file))),
+        ["bench", "open"] => told(bench::open()),
         _ => {
             eprintln!("{USAGE}");
             ExitCode::from(2)
@@ -68,6 +73,9 @@ fn check(what: &str) -> ExitCode {
     }
     if wanted("narrow") {
         narrow::check(&mut report);
+    }
+    if wanted("open") {
+        open::check(&mut report);
     }
     if wanted("stored") {
         store::check(&mut report);

@@ -1,7 +1,9 @@
 //! Stored answers of Rust, for a program that has no Rust beside it.
 //!
 //! `narrow.bin`: for each case 8 bytes of binary64 pattern and 4 bytes of the binary32 pattern
-//! that Rust gives, little endian; a NaN gives 0x7fc00000.
+//! that Rust gives, little endian; a NaN gives 0x7fc00000. `open.bin`: see `store/open.rs`.
+
+mod open;
 
 use crate::narrow;
 use crate::report::{Found, Report};
@@ -88,6 +90,7 @@ pub(crate) fn narrow_bytes() -> Vec<u8> {
 fn bytes_of(kind: &str) -> Result<Vec<u8>, String> {
     match kind {
         "narrow" => Ok(narrow_bytes()),
+        "open" => Ok(open::bytes()),
         _ => Err(format!("no stored answers of the kind {kind:?}")),
     }
 }
@@ -125,13 +128,18 @@ pub(crate) fn verify(kind: &str, file: &Path) -> Result<String, String> {
 
 /// Holds the library to the stored answers, and the stored answers to Rust.
 pub(crate) fn check(report: &mut Report) {
-    let file = folder().join("narrow.bin");
-    report.run("stored: narrow.bin", || match fs::read(&file) {
-        Ok(stored) => replay_narrow(&stored),
+    check_file(report, "narrow.bin", replay_narrow);
+    check_file(report, "open.bin", open::replay);
+}
+
+fn check_file(report: &mut Report, name: &str, replay: fn(&[u8]) -> Found) {
+    let file = folder().join(name);
+    report.run(&format!("stored: {name}"), || match fs::read(&file) {
+        Ok(stored) => replay(&stored),
         Err(error) => Found {
             cases: 0,
             mismatches: 1,
-            smallest: Some(format!("narrow.bin: {error}")),
+            smallest: Some(format!("{name}: {error}")),
         },
     });
 }
@@ -171,8 +179,9 @@ mod tests {
     use super::*;
 
     #[test]
-    fn stored_file_is_made_anew() {
+    fn stored_files_are_made_anew() {
         verify("narrow", &folder().join("narrow.bin")).unwrap();
+        verify("open", &folder().join("open.bin")).unwrap();
     }
 
     /// Every kind of case is well represented.

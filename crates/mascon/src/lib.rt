@@ -1,7 +1,14 @@
 // The exported library: thin functions for C and Rust to call, over the proved crates. include/mascon.h declares them.
+pub mod number;
+
 ghost use mathlib.Core.Path.{_≡_};
+ghost use Prim.Native.Nat.{_≤_};
+ghost use lib.ListN.{length};
 ghost use lib.Ieee.{binary64, toBits};
 ghost use Rattle.float.specs.Narrow.{narrow64};
+ghost use Rattle.rym1.specs.Causes.{outcome};
+ghost use Rattle.rym1.specs.Open.{both, openFile};
+use number::answer_number;
 
 // The pattern of the binary32 nearest to x, ties to even; a NaN gives 0x7fc00000.
 #[no_mangle]
@@ -9,4 +16,19 @@ pub extern "C" fn mascon_narrow(x: f64) -> u64
     ensures { λ r. ⌜ r ≡ narrow64 (toBits binary64 x) ⌝ }
 {
     float::narrow(x) as u64
+}
+
+// The working form of a point file into `out`, and a journal without an entry.
+#[no_mangle]
+pub extern "C" fn mascon_open(
+    file: &[u8],
+    scratch: &mut [u32],
+    out: &mut [u8],
+    journal: &mut [u32],
+) -> u64
+    ensures { λ r. ⌜ (outcome r (both (now (out .exit)) (now (journal .exit)))
+        ≡ openFile (now (file .entry)) (length (now (scratch .entry))) (now (out .entry)) (now (journal .entry)))
+        × (r ≤ 8 → now (scratch .exit) ≡ now (scratch .entry)) ⌝ }
+{
+    answer_number(points::open(file, scratch, out, journal))
 }

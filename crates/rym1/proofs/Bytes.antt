@@ -6,7 +6,7 @@ use native.Mathlib.Nat.{add-zero, zero-add, suc-add, add-assoc, mul-comm, mul-as
 use native.Mathlib.Numerals.{add-one, towards-suc}
 use native.Mathlib.Omega.{arith}
 use lib.ListN.{length, getD, set, take, drop, length-append, length-drop, take-append-drop, List·getD-append}
-use lib.Seq.{sets, sets-eq, length-take-le, take-at, drop-at, take-append-le, drop-append-le, take-append-add, drop-append-add, drop-drop}
+use lib.Seq.{sets, sets-eq, length-take-le, take-at, drop-at, take-append-le, drop-append-le, take-append-add, drop-append-add, drop-drop, take-add}
 use lib.Seq.{take-take, take-suc, drop-cons, set-at, getD-take, getD-drop, getD-append-add}
 use lib.Arith.{digits-div, digits-mod, mod-mul}
 use Rattle.rym1.specs.Bytes.{word, le, splice}
@@ -304,3 +304,24 @@ splice-snoc s at new v k h e =
     let l : length (splice s at new) ≡ length s = length-splice s at new (omega arith) in
     let one : set (splice s at new) k v ≡ splice (splice s at new) k (v ∷ []) = stores (splice s at new) k (v ∷ []) (omega arith) in
     one ∙ splice-splice s at new (v ∷ []) k (omega arith) e
+
+-- ---- parts
+
+-- a part and the part behind it
+pub part-part : (j k : ℕ) (s : List ℕ) (at : ℕ) → take j (drop at s) ++ take k (drop (at + j) s) ≡ take (j + k) (drop at s)
+part-part j k s at = rw (← drop-drop j at s) (sym (take-add j k (drop at s)))
+
+-- a number that is read and written again, in two parts
+pub le-parts : (j k : ℕ) (s : List ℕ) (at : ℕ) → AllBytes s → at + (j + k) ≤ length s → le (j + k) (word (j + k) s at) ≡ le j (word j s at) ++ le k (word k s (at + j))
+le-parts j k s at all h =
+    rw (le-word (j + k) s at all h, le-word j s at all (omega arith), le-word k s (at + j) all (omega arith)) (sym (part-part j k s at))
+
+-- a splice within what a splice brought
+pub splice-in : (s : List ℕ) (at : ℕ) (u : List ℕ) (k : ℕ) (v : List ℕ) → at ≤ length s → k + length v ≤ length u → splice (splice s at u) (at + k) v ≡ splice s at (splice u k v)
+unfolding splice
+splice-in s at u k v h b =
+    let p = take at s in
+    let long : length p ≡ at = length-take-le at s h in
+    let d = drop (at + length u) s in
+    let right = rw long at (splice-append-right p (u ++ d) k v) in
+    right ∙ ap (λ (l : List ℕ). p ++ l) (splice-append-left u d k v b) ∙ rw (length-splice u k v b)

@@ -1,2 +1,7 @@
 -- Laws that other crates cite.
 pub mod Bytes
+pub mod Causes
+pub mod Accepted
+pub mod Points
+pub mod Cells
+pub mod Opened

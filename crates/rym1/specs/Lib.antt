@@ -1,2 +1,5 @@
 pub mod Bytes
 pub mod Causes
+pub mod File
+pub mod Cells
+pub mod Open

@@ -1,0 +1,38 @@
+// 01's numbers, as they pass the boundary.
+ghost use mathlib.Core.Path.{_≡_};
+ghost use Rattle.rym1.specs.Causes.{number, told};
+use rym1::Answer;
+use rym1::Cause;
+
+pub fn cause_number(cause: Cause) -> u64
+    ensures { λ r. ⌜ r ≡ number cause ⌝ }
+{
+    match cause {
+        Cause::Nothing => 0,
+        Cause::FileShort => 1,
+        Cause::MarkWrong => 2,
+        Cause::GridOutside => 3,
+        Cause::RecordsMissing => 4,
+        Cause::HeaderFloat => 5,
+        Cause::CoordinateOutside => 6,
+        Cause::MassNotFinite => 7,
+        Cause::ScratchShort => 8,
+        Cause::OutputShort => 9,
+        Cause::NotWorking => 10,
+        Cause::JournalWrong => 11,
+        Cause::CellEmpty => 12,
+        Cause::JournalFull => 13,
+        Cause::BufferFull => 14,
+        Cause::NoEntry => 15,
+        Cause::EntryWrong => 16,
+    }
+}
+
+pub fn answer_number(answer: Answer) -> u64
+    ensures { λ r. ⌜ r ≡ told answer ⌝ }
+{
+    match answer {
+        Answer::Refused(cause) => cause_number(cause),
+        Answer::Length(length) => length,
+    }
+}

@@ -1,0 +1,106 @@
+-- Laws of tests and causes, as the code makes them. Assumes nothing.
+use Prim.Native.Nat.{ℕ, _+_, _≤_, _<_}
+use mathlib.Core.Path.{_≡_, refl, sym, ap, _∙_}
+use mathlib.Core.Bool.{Bool, true, false, not, _&&_, _||_}
+use mathlib.Core.List.{List, [], _∷_}
+use native.Mathlib.Omega.{arith}
+use lib.ListN.{length}
+use lib.Dec.{eqb, ltb}
+use borrow.Author.Tests.{ltb-false, eqb-true, eqb-false, not-true, not-false}
+use types.Run.{OneOf, miss}
+use denote.Enum.Declared.{tagOf}
+use Rattle.rym1.proofs.Cause.{the-type}
+use Rattle.rym1.specs.declared.Cause.{Cause}
+use Rattle.rym1.specs.declared.Cause.the-variants.{Nothing, FileShort, MarkWrong, GridOutside, RecordsMissing, HeaderFloat}
+use Rattle.rym1.specs.declared.Cause.the-variants.{CoordinateOutside, MassNotFinite, ScratchShort, OutputShort, NotWorking}
+use Rattle.rym1.specs.declared.Cause.the-variants.{JournalWrong, CellEmpty, JournalFull, BufferFull, NoEntry, EntryWrong}
+use Rattle.rym1.specs.Bytes.{word32}
+use Rattle.rym1.specs.Causes.{number, when}
+use Rattle.rym1.specs.File.{finite, allFinite, headerFloats, density, volume, scale, boxMin, boxMax, grid, count, size, headerCause}
+use Rattle.rym1.proofs.Causes.{when-zero, first-zero-l, first-zero-r}
+
+-- ---- tests
+
+-- what a call answered of w, and a test of the answer, known of v
+pub told : {A : Type 0} (F : A → Bool) {r : Bool} {w v : A} {b : Bool} → r ≡ F w → w ≡ v → r ≡ b → F v ≡ b
+told F e1 e2 e3 = ap F (sym e2) ∙ sym e1 ∙ e3
+
+-- ---- causes
+
+-- the tags of all cases but the first, which alone has the number 0
+abbrev pub others : List ℕ
+others = 1 ∷ 2 ∷ 3 ∷ 4 ∷ 5 ∷ 6 ∷ 7 ∷ 8 ∷ 9 ∷ 10 ∷ 11 ∷ 12 ∷ 13 ∷ 14 ∷ 15 ∷ 16 ∷ []
+
+pub not-first : (k : Cause) → OneOf others (tagOf the-type k) → not (eqb (number k) 0) ≡ true
+unfolding number
+not-first Nothing o = absurd (miss others 0 (tt {0}) o)
+not-first FileShort o = refl
+not-first MarkWrong o = refl
+not-first GridOutside o = refl
+not-first RecordsMissing o = refl
+not-first HeaderFloat o = refl
+not-first CoordinateOutside o = refl
+not-first MassNotFinite o = refl
+not-first ScratchShort o = refl
+not-first OutputShort o = refl
+not-first NotWorking o = refl
+not-first JournalWrong o = refl
+not-first CellEmpty o = refl
+not-first JournalFull o = refl
+not-first BufferFull o = refl
+not-first NoEntry o = refl
+not-first EntryWrong o = refl
+
+-- what `is_refused` answers
+pub refused : (k : ℕ) {r : Bool} → r ≡ not (eqb k 0) → r ≡ true → 0 < k
+refused k e t = omega (arith, eqb-false k 0 (not-true (eqb k 0) (sym e ∙ t)))
+
+pub not-refused : (k : ℕ) {r : Bool} → r ≡ not (eqb k 0) → r ≡ false → k ≡ 0
+not-refused k e t = eqb-true k 0 (not-false (eqb k 0) (sym e ∙ t))
+
+-- ---- the header's floats
+
+and-three : (p q r s : Bool) → (p && (q && (r && s))) ≡ ((p && (q && r)) && s)
+and-three true true r s = refl
+and-three true false r s = refl
+and-three false q r s = refl
+
+and-last : (p q r : Bool) → (p && (q && (r && true))) ≡ (p && (q && r))
+and-last true true true = refl
+and-last true true false = refl
+and-last true false r = refl
+and-last false q r = refl
+
+-- three floats on end
+abbrev pub three : List ℕ → ℕ → Bool
+three f at = finite (word32 f at) && (finite (word32 f (at + 4)) && finite (word32 f (at + 8)))
+
+pub nine-floats : (f : List ℕ) → allFinite (headerFloats f) ≡ (three f 16 && (three f 32 && three f 44))
+unfolding allFinite headerFloats density volume scale boxMin boxMax
+nine-floats f =
+    let back : allFinite (word32 f 44 ∷ word32 f 48 ∷ word32 f 52 ∷ []) ≡ three f 44 =
+    and-last (finite (word32 f 44)) (finite (word32 f 48)) (finite (word32 f 52)) in
+    let behind : allFinite (word32 f 32 ∷ word32 f 36 ∷ word32 f 40 ∷ word32 f 44 ∷ word32 f 48 ∷ word32 f 52 ∷ []) ≡ (three f 32 && three f 44) =
+    and-three (finite (word32 f 32)) (finite (word32 f 36)) (finite (word32 f 40)) _ ∙ ap (λ (b : Bool). three f 32 && b) back in
+    and-three (finite (word32 f 16)) (finite (word32 f 20)) (finite (word32 f 24)) _ ∙ ap (λ (b : Bool). three f 16 && b) behind
+
+-- ---- the header
+
+pub not-three : (p q r : Bool) → (not p || (not q || not r)) ≡ not (p && (q && r))
+not-three true true r = refl
+not-three true false r = refl
+not-three false q r = refl
+
+-- a header that is not refused: the file is long enough for it, and for its records
+pub header-long : (f : List ℕ) → headerCause f ≡ 0 → 64 ≤ length f
+unfolding headerCause
+header-long f e = ltb-false (length f) 64 (when-zero (ltb (length f) 64) 0 (first-zero-l (when (ltb (length f) 64) 1) _ e))
+
+pub header-room : (f : List ℕ) → headerCause f ≡ 0 → size (count f) ≤ length f
+unfolding headerCause
+header-room f e =
+    let missing = ltb (length f) (size (count f)) in
+    let k2 = first-zero-r (when (ltb (length f) 64) 1) _ e in
+    let k3 = first-zero-r (when (not (eqb (word32 f 0) 0x314d5952) || not (eqb (word32 f 4) 1)) 2) _ k2 in
+    let k4 = first-zero-r (when (eqb (grid f) 0 || ltb 256 (grid f)) 3) _ k3 in
+    ltb-false (length f) (size (count f)) (when-zero missing 3 (first-zero-l (when missing 4) _ k4))

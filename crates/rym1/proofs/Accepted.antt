@@ -1,0 +1,142 @@
+-- What is known of a point file that causes 1 to 7 do not refuse, and of each of its records. Assumes nothing.
+use Prim.Native.Nat.{ℕ, zero, suc, _+_, _*_, _≤_, _<_}
+use mathlib.Core.Path.{_≡_, refl, sym, ap, _∙_}
+use mathlib.Core.Bool.{Bool, true, false, not, _&&_, _||_}
+use mathlib.Core.List.{List, [], _∷_}
+use native.Mathlib.Nat.{add-zero}
+use native.Mathlib.Omega.{arith}
+use lib.ListN.{length}
+use lib.Dec.{eqb, leb, ltb}
+use borrow.Author.Tests.{ltb-true, ltb-false, leb-false, eqb-true, eqb-false, not-false, le-ltb, eq-eqb, ne-eqb}
+use Rattle.rym1.specs.declared.Point.{Point}
+use Rattle.rym1.specs.Bytes.{word32}
+use Rattle.rym1.specs.Causes.{when, first}
+use Rattle.rym1.specs.File.{grid, count, size, pointAt, pointsAt, points, finite, allFinite, headerFloats, below, placeCause, massCause, pointCause, pointsCause, headerCause, fileCause}
+use Rattle.rym1.proofs.Causes.{or-false-l, or-false-r, and-true-l, when-zero, first-zero-l, first-zero-r}
+
+-- ---- a record
+
+pub record Inside (g x y z : ℕ) : Type 0 where
+  pub x-low : x < g
+  pub y-low : y < g
+  pub z-low : z < g
+
+pub inside : (g x y z : ℕ) → placeCause g x y z ≡ 0 → Inside g x y z
+unfolding placeCause
+inside g x y z e =
+    let none = when-zero (leb g x || (leb g y || leb g z)) 5 e in
+    let rest = or-false-r (leb g x) (leb g y || leb g z) none in
+    record {
+      x-low = leb-false g x (or-false-l (leb g x) (leb g y || leb g z) none);
+      y-low = leb-false g y (or-false-l (leb g y) (leb g z) rest);
+      z-low = leb-false g z (or-false-r (leb g y) (leb g z) rest);
+    }
+
+-- a finite pattern has 32 bits
+pub finite-fits : (p : ℕ) → finite p ≡ true → p < 4294967296
+unfolding finite
+finite-fits p e = ltb-true p 4294967296 (and-true-l (ltb p 4294967296) _ e)
+
+pub record Finite (cauchy elliptic : ℕ) : Type 0 where
+  pub cauchy-finite : finite cauchy ≡ true
+  pub elliptic-finite : finite elliptic ≡ true
+
+pub are-finite : (a b : ℕ) → massCause a b ≡ 0 → Finite a b
+unfolding massCause
+are-finite a b e =
+    let none = when-zero (not (finite a) || not (finite b)) 6 e in
+    record {
+      cauchy-finite = not-false (finite a) (or-false-l (not (finite a)) (not (finite b)) none);
+      elliptic-finite = not-false (finite b) (or-false-r (not (finite a)) (not (finite b)) none);
+    }
+
+pub record Sound (g : ℕ) (p : Point) : Type 0 where
+  pub place : Inside g (p .x) (p .y) (p .z)
+  pub masses : Finite (p .cauchy) (p .elliptic)
+
+pub sound : (g : ℕ) (p : Point) → pointCause g p ≡ 0 → Sound g p
+unfolding pointCause
+sound g p e =
+    record {
+      place = inside g (p .x) (p .y) (p .z) (first-zero-l (placeCause g (p .x) (p .y) (p .z)) (massCause (p .cauchy) (p .elliptic)) e);
+      masses = are-finite (p .cauchy) (p .elliptic) (first-zero-r (placeCause g (p .x) (p .y) (p .z)) (massCause (p .cauchy) (p .elliptic)) e);
+    }
+
+-- each of n records that are not refused
+pub each-sound : (g : ℕ) (f : List ℕ) (at n i : ℕ) → pointsCause g (pointsAt f at n) ≡ 0 → i < n → pointCause g (pointAt f (at + 16 * i)) ≡ 0
+unfolding pointsAt pointsCause
+each-sound g f at zero i e h = absurd (omega arith)
+each-sound g f at (suc n) zero e h = rw (add-zero at) (first-zero-l (pointCause g (pointAt f at)) _ e)
+each-sound g f at (suc n) (suc i) e h =
+    let there : at + 16 + 16 * i ≡ at + 16 * suc i = omega arith in
+    rw there at (each-sound g f (at + 16) n i (first-zero-r (pointCause g (pointAt f at)) _ e) (omega arith))
+
+-- ---- a file
+
+pub record Accepted (f : List ℕ) : Type 0 where
+  pub long : 64 ≤ length f
+  pub mark : word32 f 0 ≡ 0x314d5952
+  pub version : word32 f 4 ≡ 1
+  pub grid-pos : 0 < grid f
+  pub grid-few : grid f ≤ 256
+  pub room : size (count f) ≤ length f
+  pub floats : allFinite (headerFloats f) ≡ true
+  pub box : (below f 0 ≡ true) × (below f 1 ≡ true) × (below f 2 ≡ true)
+  pub sound-points : pointsCause (grid f) (points f) ≡ 0
+
+pub accepted : (f : List ℕ) → fileCause f ≡ 0 → Accepted f
+unfolding fileCause headerCause
+accepted f e =
+    let header = first-zero-l (headerCause f) (pointsCause (grid f) (points f)) e in
+    let short = ltb (length f) 64 in
+    let wrong = not (eqb (word32 f 0) 0x314d5952) || not (eqb (word32 f 4) 1) in
+    let off = eqb (grid f) 0 || ltb 256 (grid f) in
+    let missing = ltb (length f) (size (count f)) in
+    let box = not (below f 0) || (not (below f 1) || not (below f 2)) in
+    let floats = not (allFinite (headerFloats f)) || box in
+    let k2 = first-zero-r (when short 1) _ header in
+    let k3 = first-zero-r (when wrong 2) _ k2 in
+    let k4 = first-zero-r (when off 3) _ k3 in
+    let k5 = first-zero-r (when missing 4) _ k4 in
+    let right = when-zero wrong 1 (first-zero-l (when wrong 2) _ k2) in
+    let on = when-zero off 2 (first-zero-l (when off 3) _ k3) in
+    let all = when-zero floats 4 k5 in
+    let boxed = or-false-r (not (allFinite (headerFloats f))) box all in
+    let boxed2 = or-false-r (not (below f 0)) (not (below f 1) || not (below f 2)) boxed in
+    record {
+      long = ltb-false (length f) 64 (when-zero short 0 (first-zero-l (when short 1) _ header));
+      mark = eqb-true (word32 f 0) 0x314d5952 (not-false _ (or-false-l (not (eqb (word32 f 0) 0x314d5952)) (not (eqb (word32 f 4) 1)) right));
+      version = eqb-true (word32 f 4) 1 (not-false _ (or-false-r (not (eqb (word32 f 0) 0x314d5952)) (not (eqb (word32 f 4) 1)) right));
+      grid-pos = omega (arith, eqb-false (grid f) 0 (or-false-l (eqb (grid f) 0) (ltb 256 (grid f)) on));
+      grid-few = ltb-false 256 (grid f) (or-false-r (eqb (grid f) 0) (ltb 256 (grid f)) on);
+      room = ltb-false (length f) (size (count f)) (when-zero missing 3 (first-zero-l (when missing 4) _ k4));
+      floats = not-false (allFinite (headerFloats f)) (or-false-l (not (allFinite (headerFloats f))) box all);
+      box = (
+        not-false (below f 0) (or-false-l (not (below f 0)) (not (below f 1) || not (below f 2)) boxed),
+        not-false (below f 1) (or-false-l (not (below f 1)) (not (below f 2)) boxed2),
+        not-false (below f 2) (or-false-r (not (below f 1)) (not (below f 2)) boxed2),
+      );
+      sound-points = first-zero-r (headerCause f) (pointsCause (grid f) (points f)) e;
+    }
+
+-- and such a file is refused by none of them
+pub by-none : (f : List ℕ) → Accepted f → fileCause f ≡ 0
+unfolding fileCause headerCause when first
+by-none f a =
+    rw (
+      le-ltb (length f) 64 (a .long),
+      eq-eqb (word32 f 0) 0x314d5952 (a .mark),
+      eq-eqb (word32 f 4) 1 (a .version),
+      ne-eqb (grid f) 0 (λ e. omega (arith, e, a .grid-pos)),
+      le-ltb 256 (grid f) (a .grid-few),
+      le-ltb (length f) (size (count f)) (a .room),
+      a .floats,
+      a .box .0,
+      a .box .1,
+      a .box .2,
+      a .sound-points,
+    )
+
+-- of a file that is not refused, each record
+pub file-sound : (f : List ℕ) (i : ℕ) → fileCause f ≡ 0 → i < count f → Sound (grid f) (pointAt f (64 + 16 * i))
+file-sound f i e h = sound (grid f) (pointAt f (64 + 16 * i)) (each-sound (grid f) f 64 (count f) i (unfold points in accepted f e .sound-points) h)

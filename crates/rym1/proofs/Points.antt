@@ -1,0 +1,140 @@
+-- Laws of records as bytes: what is read of records that were written, and what reading and writing leaves. Assumes nothing.
+use Prim.Native.Nat.{ℕ, zero, suc, _+_, _-_, _*_, _≤_, _<_}
+use mathlib.Core.Path.{_≡_, refl, sym, ap, _∙_}
+use mathlib.Core.List.{List, [], _∷_, _++_, append-assoc}
+use native.Mathlib.Nat.{add-zero, add-assoc}
+use native.Mathlib.Omega.{arith}
+use lib.ListN.{length, getD, take, drop, length-append}
+use Rattle.rym1.specs.declared.Point.{Point}
+use Rattle.rym1.specs.Bytes.{word, le}
+use Rattle.rym1.specs.File.{pointAt, pointsAt, pointBytes, pointsBytes}
+use Rattle.rym1.proofs.Bytes.{AllBytes, length-le, le-word, word-lt, word-append-left, word-append-right, word-le-fits, part-part}
+
+-- each number fits its bytes
+pub record Fits (p : Point) : Type 0 where
+  pub x : p .x < 65536
+  pub y : p .y < 65536
+  pub z : p .z < 65536
+  pub pad : p .pad < 65536
+  pub cauchy : p .cauchy < 4294967296
+  pub elliptic : p .elliptic < 4294967296
+
+abbrev pub AllFit : List Point → Type 0
+AllFit [] = Unit {0}
+AllFit (p ∷ ps) = Fits p × AllFit ps
+
+pub same-point : (p q : Point) → p .x ≡ q .x → p .y ≡ q .y → p .z ≡ q .z → p .pad ≡ q .pad → p .cauchy ≡ q .cauchy → p .elliptic ≡ q .elliptic → p ≡ q
+same-point p q x y z pad a b = λ i. record { x = x i; y = y i; z = z i; pad = pad i; cauchy = a i; elliptic = b i }
+
+-- ---- one record
+
+pub length-point : (p : Point) → length (pointBytes p) ≡ 16
+unfolding pointBytes le
+length-point p = refl
+
+-- sixteen bytes stand wherever they are read
+pub point-behind : (p b q : List ℕ) (at : ℕ) → length p ≡ at → length b ≡ 16 → pointAt (p ++ (b ++ q)) at ≡ pointAt b 0
+unfolding pointAt
+point-behind p b q at e l =
+    same-point _ _ (field0 2 (omega arith)) (field 2 2 (omega arith)) (field 2 4 (omega arith)) (field 2 6 (omega arith)) (field 4 8 (omega arith)) (field 4 12 (omega arith))
+  where
+    field : (k off : ℕ) → off + k ≤ 16 → word k (p ++ (b ++ q)) (at + off) ≡ word k b off
+    field k off h = rw (← e) (word-append-right k p (b ++ q) off ∙ word-append-left k b q off (omega arith))
+
+    field0 : (k : ℕ) → k ≤ 16 → word k (p ++ (b ++ q)) at ≡ word k b 0
+    field0 k h = rw (add-zero at) at (field k 0 (omega arith))
+
+point-zero : (p : Point) → Fits p → pointAt (pointBytes p) 0 ≡ p
+unfolding pointAt pointBytes le
+point-zero p h =
+    let x = p .x in
+    let y = p .y in
+    let z = p .z in
+    let pad = p .pad in
+    let a = p .cauchy in
+    let b = p .elliptic in
+    same-point _ p
+    (word-le-fits 2 x [] (le 2 y ++ (le 2 z ++ (le 2 pad ++ (le 4 a ++ le 4 b)))) 0 refl (h .x))
+    (word-le-fits 2 y (le 2 x) (le 2 z ++ (le 2 pad ++ (le 4 a ++ le 4 b))) 2 refl (h .y))
+    (word-le-fits 2 z (le 2 x ++ le 2 y) (le 2 pad ++ (le 4 a ++ le 4 b)) 4 refl (h .z))
+    (word-le-fits 2 pad (le 2 x ++ (le 2 y ++ le 2 z)) (le 4 a ++ le 4 b) 6 refl (h .pad))
+    (word-le-fits 4 a (le 2 x ++ (le 2 y ++ (le 2 z ++ le 2 pad))) (le 4 b) 8 refl (h .cauchy))
+    (word-le-fits 4 b (le 2 x ++ (le 2 y ++ (le 2 z ++ (le 2 pad ++ le 4 a)))) [] 12 refl (h .elliptic))
+
+-- what was written is read
+pub point-at : (p : List ℕ) (r : Point) (q : List ℕ) (at : ℕ) → length p ≡ at → Fits r → pointAt (p ++ (pointBytes r ++ q)) at ≡ r
+point-at p r q at e h = point-behind p (pointBytes r) q at e (length-point r) ∙ point-zero r h
+
+-- what is read fits, and written it is what stood there
+pub point-fits : (f : List ℕ) (at : ℕ) → AllBytes f → Fits (pointAt f at)
+unfolding pointAt
+point-fits f at all =
+    record {
+      x = word-lt 2 f at all;
+      y = word-lt 2 f (at + 2) all;
+      z = word-lt 2 f (at + 4) all;
+      pad = word-lt 2 f (at + 6) all;
+      cauchy = word-lt 4 f (at + 8) all;
+      elliptic = word-lt 4 f (at + 12) all;
+    }
+
+pub point-bytes : (f : List ℕ) (at : ℕ) → AllBytes f → at + 16 ≤ length f → pointBytes (pointAt f at) ≡ take 16 (drop at f)
+unfolding pointAt pointBytes
+point-bytes f at all h =
+    rw (
+      le-word 2 f at all (omega arith),
+      le-word 2 f (at + 2) all (omega arith),
+      le-word 2 f (at + 4) all (omega arith),
+      le-word 2 f (at + 6) all (omega arith),
+      le-word 4 f (at + 8) all (omega arith),
+      le-word 4 f (at + 12) all (omega arith),
+    )
+    (rw (add-zero at) at (joined 2 14 0 (joined 2 12 2 (joined 2 10 4 (joined 2 8 6 (joined 4 4 8 refl))))))
+  where
+    joined : (j k off : ℕ) {t : List ℕ} → t ≡ take k (drop (at + (off + j)) f) → take j (drop (at + off) f) ++ t ≡ take (j + k) (drop (at + off) f)
+    joined j k off e = rw (e, ← add-assoc at off j) (part-part j k f (at + off))
+
+-- ---- records on end
+
+pub length-points : (ps : List Point) → length (pointsBytes ps) ≡ 16 * length ps
+unfolding pointsBytes
+length-points [] = refl
+length-points (p ∷ ps) = length-append (pointBytes p) (pointsBytes ps) ∙ omega (arith, length-point p, length-points ps)
+
+pub points-append : (ps qs : List Point) → pointsBytes (ps ++ qs) ≡ pointsBytes ps ++ pointsBytes qs
+unfolding pointsBytes
+points-append [] qs = refl
+points-append (p ∷ ps) qs = rw (points-append ps qs) (sym (append-assoc (pointBytes p) (pointsBytes ps) (pointsBytes qs)))
+
+pub length-points-at : (f : List ℕ) (at n : ℕ) → length (pointsAt f at n) ≡ n
+unfolding pointsAt
+length-points-at f at zero = refl
+length-points-at f at (suc n) = ap suc (length-points-at f (at + 16) n)
+
+pub points-at : (p : List ℕ) (rs : List Point) (q : List ℕ) (at : ℕ) → length p ≡ at → AllFit rs → pointsAt (p ++ (pointsBytes rs ++ q)) at (length rs) ≡ rs
+unfolding pointsAt pointsBytes
+points-at p [] q at e h = refl
+points-at p (r ∷ rs) q at e h =
+    let e2 : length (p ++ pointBytes r) ≡ at + 16 = length-append p (pointBytes r) ∙ omega (arith, length-point r) in
+    let split : p ++ ((pointBytes r ++ pointsBytes rs) ++ q) ≡ (p ++ pointBytes r) ++ (pointsBytes rs ++ q) = simp append-assoc in
+    let head : pointAt (p ++ ((pointBytes r ++ pointsBytes rs) ++ q)) at ≡ r =
+    rw (append-assoc (pointBytes r) (pointsBytes rs) q) (point-at p r (pointsBytes rs ++ q) at e (h .0)) in
+    let tail : pointsAt (p ++ ((pointBytes r ++ pointsBytes rs) ++ q)) (at + 16) (length rs) ≡ rs =
+    rw split (points-at (p ++ pointBytes r) rs q (at + 16) e2 (h .1)) in
+    λ i. head i ∷ tail i
+
+pub points-bytes : (f : List ℕ) (at n : ℕ) → AllBytes f → at + 16 * n ≤ length f → pointsBytes (pointsAt f at n) ≡ take (16 * n) (drop at f)
+unfolding pointsAt pointsBytes
+points-bytes f at zero all h = refl
+points-bytes f at (suc n) all h =
+    let more : 16 * suc n ≡ 16 + 16 * n = omega arith in
+    rw (point-bytes f at all (omega arith), points-bytes f (at + 16) n all (omega arith), more) (part-part 16 (16 * n) f at)
+
+-- the record of an index
+pub point-of : (f : List ℕ) (at n i : ℕ) → i < n → (d : Point) → getD (pointsAt f at n) i d ≡ pointAt f (at + 16 * i)
+unfolding pointsAt
+point-of f at zero i h d = absurd (omega arith)
+point-of f at (suc n) zero h d = rw (add-zero at)
+point-of f at (suc n) (suc i) h d =
+    let e : at + 16 + 16 * i ≡ at + 16 * suc i = omega arith in
+    point-of f (at + 16) n i (omega arith) d ∙ ap (λ (k : ℕ). pointAt f k) e

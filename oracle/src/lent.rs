@@ -1,0 +1,110 @@
+//! A buffer to lend to the library, with canaries on both sides.
+
+/// Elements that guard each side.
+const GUARD: usize = 64;
+
+/// An element of a lent buffer.
+pub(crate) trait Element: Copy + PartialEq {
+    fn of(bits: u32) -> Self;
+}
+
+impl Element for u8 {
+    fn of(bits: u32) -> Self {
+        (bits >> 24) as u8
+    }
+}
+
+impl Element for u32 {
+    fn of(bits: u32) -> Self {
+        bits
+    }
+}
+
+/// Bits that look random and are the same on every run.
+pub(crate) fn mixed(seed: u32, at: usize) -> u32 {
+    let bits = (at as u32).wrapping_mul(0x9e37_79b9) ^ seed;
+    (bits ^ (bits >> 15)).wrapping_mul(0x85eb_ca6b)
+}
+
+/// The canary at a place of the whole buffer.
+fn canary<T: Element>(at: usize) -> T {
+    T::of(mixed(0xc0ff_ee11, at))
+}
+
+pub(crate) struct Lent<T> {
+    all: Vec<T>,
+    start: usize,
+    len: usize,
+}
+
+impl<T: Element> Lent<T> {
+    pub(crate) fn new() -> Self {
+        Self {
+            all: Vec::new(),
+            start: 0,
+            len: 0,
+        }
+    }
+
+    /// Fills the buffer anew, in the same allocation where it fits; `shift` elements more stand before it.
+    pub(crate) fn fill(&mut self, shift: usize, contents: impl ExactSizeIterator<Item = T>) {
+        (self.start, self.len) = (GUARD + shift, contents.len());
+        self.all.clear();
+        self.all.extend((0..self.start).map(canary::<T>));
+        self.all.extend(contents);
+        let end = self.start + self.len;
+        self.all.extend((end..end + GUARD).map(canary::<T>));
+    }
+
+    pub(crate) fn slice(&self) -> &[T] {
+        &self.all[self.start..self.start + self.len]
+    }
+
+    pub(crate) fn slice_mut(&mut self) -> &mut [T] {
+        &mut self.all[self.start..self.start + self.len]
+    }
+
+    /// Whether no canary has changed.
+    pub(crate) fn intact(&self) -> bool {
+        let end = self.start + self.len;
+        let stands = |at: usize| self.all[at] == canary(at);
+        (0..self.start).all(stands) && (end..end + GUARD).all(stands)
+    }
+}
+
+#[cfg(test)]
+mod tests {
+    use super::*;
+
+    fn lent<T: Element>(shift: usize, contents: &[T]) -> Lent<T> {
+        let mut lent = Lent::new();
+        lent.fill(shift, contents.iter().copied());
+        lent
+    }
+
+    #[test]
+    fn contents_are_free_and_canaries_are_not() {
+        let mut bytes = lent(3, &[1u8, 2, 3]);
+        assert_eq!(bytes.slice(), [1, 2, 3]);
+        bytes.slice_mut().fill(9);
+        assert_eq!(bytes.slice(), [9, 9, 9]);
+        assert!(bytes.intact());
+        for at in (0..67).chain(70..134) {
+            bytes.all[at] ^= 1;
+            assert!(!bytes.intact(), "{at}");
+            bytes.all[at] ^= 1;
+        }
+        assert!(bytes.intact());
+    }
+
+    #[test]
+    fn empty_buffers_have_canaries() {
+        let mut words = lent::<u32>(0, &[]);
+        assert!(words.slice().is_empty() && words.intact());
+        words.all[64] = 0;
+        assert!(!words.intact());
+        words.fill(0, [7].into_iter());
+        assert!(words.intact());
+        assert_eq!(words.slice(), [7]);
+    }
+}

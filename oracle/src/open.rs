@@ -1,0 +1,394 @@
+//! Opening a point file: the proved library against the rule.
+
+pub(crate) mod cases;
+
+use crate::ffi;
+use crate::lent::{mixed, Lent};
+use crate::points::{point_file, Header, Record};
+use crate::report::{Found, Report};
+use crate::rng::Rng;
+use crate::rule;
+use cases::{Case, Kind, KINDS};
+use std::fmt::LowerHex;
+use std::thread;
+
+/// An implementation of open.
+pub(crate) type Open = fn(&[u8], &mut [u32], &mut [u8], &mut [u32]) -> u64;
+
+const THREADS: u64 = 2;
+
+/// One call's buffers, and what they shall hold afterwards.
+struct Desk {
+    file: Lent<u8>,
+    scratch: Lent<u32>,
+    out: Lent<u8>,
+    journal: Lent<u32>,
+    want_out: Vec<u8>,
+    want_journal: Vec<u32>,
+}
+
+/// A word of scratch before the call: anything, all zeros, all ones, or numbers that could be a record's.
+fn scratch_word(junk: u32, at: usize) -> u32 {
+    match junk & 3 {
+        0 => 0,
+        1 => u32::MAX,
+        2 => mixed(junk, at) & 7,
+        _ => mixed(junk, at),
+    }
+}
+
+pub(crate) fn out_byte(junk: u32, at: usize) -> u8 {
+    (mixed(!junk, at) >> 24) as u8
+}
+
+pub(crate) fn journal_word(junk: u32, at: usize) -> u32 {
+    mixed(junk, at + 7)
+}
+
+impl Desk {
+    fn new() -> Self {
+        Self {
+            file: Lent::new(),
+            scratch: Lent::new(),
+            out: Lent::new(),
+            journal: Lent::new(),
+            want_out: Vec::new(),
+            want_journal: Vec::new(),
+        }
+    }
+
+    fn lay(&mut self, case: &Case) {
+        let (junk, shift) = (case.junk, case.junk as usize % 16);
+        self.file.fill(shift, case.file.iter().copied());
+        self.scratch
+            .fill(0, (0..case.scratch).map(|at| scratch_word(junk, at)));
+        self.out
+            .fill(shift / 2, (0..case.out).map(|at| out_byte(junk, at)));
+        self.journal
+            .fill(0, (0..case.journal).map(|at| journal_word(junk, at)));
+        self.want_out.clear();
+        self.want_out.extend_from_slice(self.out.slice());
+        self.want_journal.clear();
+        self.want_journal.extend_from_slice(self.journal.slice());
+    }
+
+    /// Makes the call and says what differs from the rule, if anything does.
+    fn differs(&mut self, open: Open, case: &Case) -> Option<String> {
+        self.lay(case);
+        let want = rule::open(
+            &case.file,
+            case.scratch as u64,
+            &mut self.want_out,
+            &mut self.want_journal,
+        );
+        let got = open(
+            self.file.slice(),
+            self.scratch.slice_mut(),
+            self.out.slice_mut(),
+            self.journal.slice_mut(),
+        );
+        if got != want {
+            return Some(format!("library answers {got}, rule {want}"));
+        }
+        first("output byte", self.out.slice(), &self.want_out)
+            .or_else(|| first("journal word", self.journal.slice(), &self.want_journal))
+            .or_else(|| first("byte of the file lent", self.file.slice(), &case.file))
+            .or_else(|| self.broken())
+            .or_else(|| self.scratched(case.junk, want))
+            .or_else(|| self.unfit(want))
+            .map(|what| format!("answer {want}, {what}"))
+    }
+
+    /// A buffer with a changed canary.
+    fn broken(&self) -> Option<String> {
+        let buffers = [
+            ("file", self.file.intact()),
+            ("scratch", self.scratch.intact()),
+            ("output", self.out.intact()),
+            ("journal", self.journal.intact()),
+        ];
+        let broken = buffers.iter().find(|(_, intact)| !intact);
+        broken.map(|(name, _)| format!("a write outside the {name}"))
+    }
+
+    /// An opened file that is not good, or not in working form.
+    fn unfit(&self, answer: u64) -> Option<String> {
+        let opened = self.out.slice().get(..answer as usize)?;
+        let fit = answer < 64 || rule::judge(opened).is_none() && rule::working(opened);
+        (!fit).then(|| "the opened file is not in working form".into())
+    }
+
+    /// A word of scratch that changed though the call did not pass 8.
+    fn scratched(&self, junk: u32, answer: u64) -> Option<String> {
+        let changed = |(at, &word): (usize, &u32)| word != scratch_word(junk, at);
+        let at = match answer {
+            1..=8 => self.scratch.slice().iter().enumerate().position(changed)?,
+            _ => return None,
+        };
+        Some(format!("scratch word {at} changed"))
+    }
+}
+
+/// The first place at which two buffers differ.
+fn first<T: PartialEq + LowerHex>(what: &str, got: &[T], want: &[T]) -> Option<String> {
+    let at = got.iter().zip(want).position(|(a, b)| a != b)?;
+    Some(format!(
+        "{what} {at} is {:#x}, not {:#x}",
+        got[at], want[at]
+    ))
+}
+
+/// The mismatches seen so far, and the least of them by the bytes lent, then by its number.
+#[derive(Default)]
+struct Search {
+    cases: u64,
+    mismatches: u64,
+    least: Option<(usize, u64, String)>,
+}
+
+impl Search {
+    fn visit(&mut self, desk: &mut Desk, open: Open, name: &str, number: u64, case: &Case) {
+        self.cases += 1;
+        let Some(what) = desk.differs(open, case) else {
+            return;
+        };
+        self.mismatches += 1;
+        let size = case.file.len() + 4 * case.scratch + case.out + 4 * case.journal;
+        let what = format!("{name}, case {number}: {}: {what}", described(case));
+        self.least = self
+            .least
+            .take()
+            .into_iter()
+            .chain([(size, number, what)])
+            .min();
+    }
+
+    fn and(self, other: Self) -> Self {
+        Self {
+            cases: self.cases + other.cases,
+            mismatches: self.mismatches + other.mismatches,
+            least: self.least.into_iter().chain(other.least).min(),
+        }
+    }
+
+    fn found(self) -> Found {
+        Found {
+            cases: self.cases,
+            mismatches: self.mismatches,
+            smallest: self.least.map(|(_, _, what)| what),
+        }
+    }
+}
+
+fn described(case: &Case) -> String {
+    format!(
+        "g {}, {} records, file {}, scratch {}, output {}, journal {}",
+        case.grid,
+        case.records,
+        case.file.len(),
+        case.scratch,
+        case.out,
+        case.journal
+    )
+}
+
+/// Compares the cases of a kind, the work shared out by their numbers.
+fn compare(open: Open, seed: u64, kind: &Kind, cases: u64) -> Search {
+    let share = |start: u64| {
+        let (mut desk, mut search) = (Desk::new(), Search::default());
+        for number in (start..cases).step_by(THREADS as usize) {
+            search.visit(&mut desk, open, kind.name, number, &kind.case(seed, number));
+        }
+        search
+    };
+    thread::scope(|scope| {
+        let shares: Vec<_> = (0..THREADS)
+            .map(|start| scope.spawn(move || share(start)))
+            .collect();
+        let searches = shares
+            .into_iter()
+            .map(|share| share.join().expect("no panic"));
+        searches.fold(Search::default(), Search::and)
+    })
+}
+
+fn record(cell: [u16; 3], number: u32) -> Record {
+    Record {
+        cell,
+        cauchy_mass: number as f32,
+        elliptic_mass: -0.5 * number as f32,
+    }
+}
+
+/// About 100,000 records at g 192 in no order, some cells more than once.
+fn many_records() -> Case {
+    let mut rng = Rng::new(192);
+    let records: Vec<Record> = (0..100_000)
+        .map(|number| record(rule::cell_of(192, rng.below(192 * 192 * 192)), number))
+        .collect();
+    Case::of(
+        point_file(Header::cube(192, 8.0), &records),
+        192,
+        records.len(),
+    )
+}
+
+/// Cases by name, with their answers where 01 or arithmetic gives them.
+fn fixed() -> [(&'static str, Case, Option<u64>); 5] {
+    let grid_of = |g: u32| point_file(Header::cube(g, 1.0), &[]);
+    let outside = point_file(Header::cube(192, 1.0), &[record([192, 5, 0], 1)]);
+    let mut short = Case::of(grid_of(256), 256, 0);
+    short.scratch -= 1;
+    [
+        ("(192, 5, 0)", Case::of(outside, 192, 1), Some(6)),
+        ("g 257", Case::of(grid_of(257), 257, 0), Some(3)),
+        ("g 256", Case::of(grid_of(256), 256, 0), Some(64)),
+        ("a word short at g 256", short, Some(8)),
+        ("100,000 records", many_records(), None),
+    ]
+}
+
+/// The fixed cases on one desk; an answer that is known is asked of the rule too.
+fn compare_fixed(open: Open) -> Search {
+    let (mut desk, mut search) = (Desk::new(), Search::default());
+    for (number, (name, case, answer)) in (0..).zip(fixed()) {
+        search.visit(&mut desk, open, name, number, &case);
+        let (mut out, mut journal) = (vec![0; case.out], vec![0; case.journal]);
+        let told = rule::open(&case.file, case.scratch as u64, &mut out, &mut journal);
+        if answer.is_some_and(|answer| answer != told) {
+            search.mismatches += 1;
+            search.least = Some((0, number, format!("{name}: rule answers {told}")));
+        }
+    }
+    search
+}
+
+pub(crate) fn check(report: &mut Report) {
+    for (seed, kind) in (1..).zip(&KINDS) {
+        report.run(&format!("open: {}", kind.name), || {
+            compare(ffi::open, seed, kind, kind.cases).found()
+        });
+    }
+    report.run("open: fixed cases", || compare_fixed(ffi::open).found());
+}
+
+#[cfg(test)]
+mod tests {
+    use super::*;
+    use crate::bench::plain_open;
+    use std::collections::BTreeMap;
+
+    /// Cases of each kind that a test looks at.
+    const FEW: u64 = 3000;
+
+    fn mismatches(open: Open) -> BTreeMap<&'static str, u64> {
+        let count = |(seed, kind): (u64, &'static Kind)| {
+            let cases = if kind.cases < FEW { 100 } else { FEW };
+            (kind.name, compare(open, seed, kind, cases).mismatches)
+        };
+        let all = (1..).zip(&KINDS).map(count);
+        all.filter(|(_, mismatches)| *mismatches > 0).collect()
+    }
+
+    /// The rule's answers on the first cases of a kind.
+    fn answers(name: &str) -> BTreeMap<u64, u64> {
+        let (seed, kind) = (1..)
+            .zip(&KINDS)
+            .find(|(_, kind)| kind.name == name)
+            .expect("a kind");
+        let mut seen = BTreeMap::new();
+        for case in (0..FEW).map(|number| kind.case(seed, number)) {
+            let (mut out, mut journal) = (vec![0; case.out], vec![0; case.journal]);
+            let answer = rule::open(&case.file, case.scratch as u64, &mut out, &mut journal);
+            *seen.entry(answer.min(64)).or_default() += 1;
+        }
+        seen
+    }
+
+    /// Each kind reaches the answers that it is for, and no good file is refused.
+    #[test]
+    fn kinds_are_what_they_say() {
+        for name in [
+            "working form",
+            "shuffled",
+            "repeated cells",
+            "junk not read",
+        ] {
+            assert_eq!(answers(name), BTreeMap::from([(64, FEW)]), "{name}");
+        }
+        let only = |name: &str, wanted: &[u64]| {
+            let seen = answers(name);
+            assert!(seen.keys().eq(wanted), "{name}: {seen:?}");
+            assert!(seen.values().all(|&cases| cases > 10), "{name}: {seen:?}");
+        };
+        only("header floats", &[5, 64]);
+        only("header words", &[2, 3, 4, 6, 8, 64]);
+        only("file lengths", &[1, 4, 64]);
+        only("coordinates", &[6, 64]);
+        only("masses", &[7, 64]);
+        only("6 and 7 together", &[6, 7, 64]);
+        only("scratch lengths", &[8, 9, 13, 64]);
+        only("output lengths", &[9, 13, 64]);
+        only("journal lengths", &[9, 13, 64]);
+        only("several causes", &[1, 2, 3, 4, 5, 6, 7, 8, 9, 13, 64]);
+    }
+
+    #[test]
+    fn working_form_is_what_it_says() {
+        let case = |kind: usize, number| KINDS[kind].case(1, number).file;
+        assert!((0..1000).all(|number| rule::working(&case(0, number))));
+        assert!(
+            (0..1000)
+                .filter(|&number| !rule::working(&case(1, number)))
+                .count()
+                > 400
+        );
+        assert!((0..1000).all(|number| !rule::working(&case(2, number))));
+    }
+
+    /// A second implementation agrees with the rule.
+    #[test]
+    fn plain_open_agrees() {
+        assert_eq!(mismatches(plain_open), BTreeMap::new());
+        assert_eq!(compare_fixed(plain_open).mismatches, 0);
+    }
+
+    /// Made-up faults are found, and where they should be.
+    #[test]
+    fn faults_are_found() {
+        let found = |open: Open| mismatches(open).into_keys().collect::<Vec<_>>();
+        let touches_journal: Open = |file, scratch, out, journal| {
+            journal.iter_mut().take(1).for_each(|word| *word = 0);
+            plain_open(file, scratch, out, journal)
+        };
+        assert!(found(touches_journal).contains(&"header floats"));
+        let touches_scratch: Open = |file, scratch, out, journal| {
+            scratch.iter_mut().take(1).for_each(|word| *word ^= 1);
+            plain_open(file, scratch, out, journal)
+        };
+        assert!(found(touches_scratch).contains(&"scratch lengths"));
+        let zeroes_the_rest: Open = |file, scratch, out, journal| {
+            let answer = plain_open(file, scratch, out, journal);
+            if answer >= 64 {
+                out[answer as usize..].fill(0);
+            }
+            answer
+        };
+        assert!(found(zeroes_the_rest).contains(&"working form"));
+        let wants_less: Open = |file, scratch, out, journal| match scratch.len() {
+            0..8 => plain_open(file, &mut [0; 8], out, journal),
+            _ => plain_open(file, scratch, out, journal),
+        };
+        assert_eq!(found(wants_less), ["scratch lengths", "several causes"]);
+    }
+
+    #[test]
+    fn the_smallest_is_told() {
+        let wrong: Open = |_, _, _, _| 5;
+        let what = compare(wrong, 1, &KINDS[0], 300).found();
+        assert_eq!((what.cases, what.mismatches), (300, 300));
+        let what = what.smallest.expect("a mismatch");
+        assert!(what.contains("g 1, 0 records, file 64"), "{what}");
+        assert!(what.ends_with("library answers 5, rule 64"), "{what}");
+    }
+}
