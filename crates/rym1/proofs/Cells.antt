@@ -167,6 +167,12 @@ pub named-other : (g i : ℕ) (p : Point) (c : ℕ) → (cellOf g p ≡ c → �
 unfolding named
 named-other g i p c h = rw (ne-eqb (cellOf g p) c h)
 
+-- the last record counts for its cell
+pub last-counts : (g i : ℕ) (ps : List Point) (p : Point) → lookFrom g i (ps ++ (p ∷ [])) (cellOf g p) ≡ held (i + length ps) (massesOf p)
+unfolding lookFrom later
+last-counts g i [] p = rw (named-same g i p (cellOf g p) refl, add-zero i)
+last-counts g i (q ∷ ps) p = rw (last-counts g (suc i) ps p, suc-add i (length ps), add-suc i (length ps))
+
 pub look-past : (g i : ℕ) (p : Point) (ps : List Point) (c : ℕ) → (cellOf g p ≡ c → ⊥) → lookFrom g i (p ∷ ps) c ≡ lookFrom g (suc i) ps c
 unfolding lookFrom
 look-past g i p ps c h = rw (named-other g i p c h) (later-vacant _)

@@ -5,3 +5,4 @@ pub mod Accepted
 pub mod Points
 pub mod Cells
 pub mod Opened
+pub mod Models
