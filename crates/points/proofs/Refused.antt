@@ -22,8 +22,8 @@ use Rattle.rym1.proofs.Causes.{when-zero, first-zero-l, first-zero-r}
 -- ---- tests
 
 -- what a call answered of w, and a test of the answer, known of v
-pub told : {A : Type 0} (F : A → Bool) {r : Bool} {w v : A} {b : Bool} → r ≡ F w → w ≡ v → r ≡ b → F v ≡ b
-told F e1 e2 e3 = ap F (sym e2) ∙ sym e1 ∙ e3
+pub tested : {A : Type 0} (F : A → Bool) {r : Bool} {w v : A} {b : Bool} → r ≡ F w → w ≡ v → r ≡ b → F v ≡ b
+tested F e1 e2 e3 = ap F (sym e2) ∙ sym e1 ∙ e3
 
 -- ---- causes
 

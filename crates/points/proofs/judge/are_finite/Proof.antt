@@ -2,7 +2,7 @@
 use mathlib.Core.Path.{ap, _∙_}
 use borrow.Author.Needs.{needs}
 use Rattle.rym1.specs.File.{finite}
-use Rattle.points.proofs.Refused.{told}
+use Rattle.points.proofs.Refused.{tested}
 use Rattle.points.proofs.judge.are_finite.Statement.{statement}
 use Rattle.points.proofs.judge.are_finite.Tie as tie
 
@@ -34,18 +34,18 @@ returns : tie.Need-returns
 returns c =
     let at-4 = c .before .before .before .before in
     let at-6 = at-4 .before .before in
-    let one = told finite (at-6 .is-finite .ensures) (at-6 .before .u32-at .ensures) (at-4 .before .if1 .taken) in
-    let two = told finite (c .before .before .before .is-finite2 .ensures) (at-4 .u32-at2 .ensures) (c .before .before .if2 .taken) in
+    let one = tested finite (at-6 .is-finite .ensures) (at-6 .before .u32-at .ensures) (at-4 .before .if1 .taken) in
+    let two = tested finite (c .before .before .before .is-finite2 .ensures) (at-4 .u32-at2 .ensures) (c .before .before .if2 .taken) in
     rw (one, two) (c .is-finite3 .ensures ∙ ap finite (c .before .u32-at3 .ensures))
 
 returns-2 : tie.Need-returns-2
 returns-2 c =
     let at-4 = c .before .before .before .before in
-    let one = told finite (at-4 .is-finite .ensures) (at-4 .before .u32-at .ensures) (c .before .before .before .if1 .taken) in
-    rw (one, told finite (c .before .is-finite2 .ensures) (c .before .before .u32-at2 .ensures) (c .if2 .left))
+    let one = tested finite (at-4 .is-finite .ensures) (at-4 .before .u32-at .ensures) (c .before .before .before .if1 .taken) in
+    rw (one, tested finite (c .before .is-finite2 .ensures) (c .before .before .u32-at2 .ensures) (c .if2 .left))
 
 returns-3 : tie.Need-returns-3
-returns-3 c = rw (told finite (c .before .is-finite .ensures) (c .before .before .u32-at .ensures) (c .if1 .left))
+returns-3 c = rw (tested finite (c .before .is-finite .ensures) (c .before .before .u32-at .ensures) (c .if1 .left))
 
 pub are-finite-spec : {M : Type 1} → statement M
 are-finite-spec =
