@@ -1,5 +1,6 @@
 //! The original itself on models whose answers are known: it is compiled and reached as it should be.
 
+use crate::ffi;
 use crate::original::{self, shim};
 use crate::points::{point_file, Header, Record};
 use crate::report::{Found, Report};
@@ -17,13 +18,14 @@ const KERNEL: [f64; 5] = [1.0, 2.0, 3.0, 0.5, 7.0];
 /// Says what is wrong, or nothing.
 type Model = (&'static str, fn() -> Result<(), String>);
 
-const MODELS: [Model; 11] = [
+const MODELS: [Model; 12] = [
     ("no record", no_record),
     ("one record", one_record),
     ("all cells of grid 2", full_grid_2),
     ("a full plane of grid 3", plane_of_grid_3),
     ("a corner of grid 4", corner_of_grid_4),
     ("a shared slot", shared_slot),
+    ("what the original accepts and the library refuses", laxer),
     ("a ray", ray),
     ("near crossings", near_crossings),
     ("density", density),
@@ -151,6 +153,48 @@ fn shared_slot() -> Result<(), String> {
         [32, 36, 40].map(|at| float_at(&tree, 64 + at)),
         [192.5, 5.5, 0.5],
     )
+}
+
+/// The library's answer to a file, with room for all it could want at a small grid.
+fn opened(file: &[u8]) -> u64 {
+    ffi::open(file, &mut [0; 8], &mut [0; 256], &mut [0; 1])
+}
+
+/// Whether a call panics; what it would print is left out.
+fn panics(call: impl FnOnce() -> bool + std::panic::UnwindSafe) -> bool {
+    let hook = std::panic::take_hook();
+    std::panic::set_hook(Box::new(|_| ()));
+    let caught = std::panic::catch_unwind(call).is_err();
+    std::panic::set_hook(hook);
+    caught
+}
+
+/// Each input of docs/DIFFERENCES.md: the original takes it, and the library gives the cause named there.
+fn laxer() -> Result<(), String> {
+    let cube = Header::cube(2, 2.0);
+    let endless = Header {
+        max: [f32::INFINITY, 2.0, 2.0],
+        ..cube
+    };
+    let heavy = Record {
+        cauchy_mass: f32::NAN,
+        ..record(0, 0, 0)
+    };
+    let cases = [
+        ("g 0", point_file(Header::cube(0, 2.0), &[]), 3),
+        ("g 257", point_file(Header::cube(257, 2.0), &[]), 3),
+        ("an endless box", point_file(endless, &[]), 5),
+        ("a flat box", point_file(Header::cube(2, 0.0), &[]), 5),
+        ("a NaN mass", point_file(cube, &[heavy]), 7),
+    ];
+    for (name, file, cause) in cases {
+        shim::build_mascon_tree(&file)?;
+        same(name, opened(&file), cause)?;
+    }
+    let outside = point_file(cube, &[record(0, 0, 2)]);
+    let panicked = panics(|| shim::build_mascon_tree(&outside).is_ok());
+    same("a coordinate past the last slot panics", panicked, true)?;
+    same("a coordinate past the last slot", opened(&outside), 6)
 }
 
 fn ray() -> Result<(), String> {

@@ -1,8 +1,8 @@
 -- What open answers and leaves, way by way. Assumes nothing.
-use Prim.Native.Nat.{ℕ, zero, suc, _+_, _*_, _≤_, _<_}
+use Prim.Native.Nat.{ℕ, _+_, _*_, _≤_, _<_}
 use mathlib.Core.Path.{_≡_, refl, sym, ap, _∙_}
 use mathlib.Core.Bool.{Bool, true, false, not}
-use mathlib.Core.List.{List, [], _∷_, _++_}
+use mathlib.Core.List.{List, [], _∷_}
 use native.Mathlib.Omega.{arith}
 use lib.ListN.{length, set, take}
 use lib.Seq.{length-take-le}
@@ -11,13 +11,12 @@ use borrow.Author.Tests.{lt-ltb, le-ltb, eq-eqb, ne-eqb}
 use Rattle.rym1.specs.declared.Cause.{Cause}
 use Rattle.rym1.specs.declared.Cause.the-variants.{ScratchShort, OutputShort, JournalFull}
 use Rattle.rym1.specs.declared.Answer.the-variants.{Refused, Length}
-use Rattle.rym1.specs.Bytes.{le, splice}
+use Rattle.rym1.specs.Bytes.{splice}
 use Rattle.rym1.specs.Causes.{number, told, when, first, outcome, refuse}
 use Rattle.rym1.specs.File.{grid, count, size, pointsBytes, cube, fileCause, workCause}
 use Rattle.rym1.specs.Open.{counted, fileOf, occupiedOf, occupied, opened, both, openCause, openFile}
 use Rattle.rym1.proofs.Bytes.{AllBytes, length-splice, splice-splice}
-use Rattle.rym1.proofs.Causes.{first-found, first-none, refuse-found, refuse-none}
-use Rattle.rym1.proofs.Accepted.{accepted}
+use Rattle.rym1.proofs.Causes.{first-found, refuse-found}
 use Rattle.rym1.proofs.Points.{length-points}
 use Rattle.rym1.proofs.Opened.{length-counted, working-opened}
 use Rattle.points.specs.Opening.{Opening}

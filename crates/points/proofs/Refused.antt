@@ -1,12 +1,11 @@
 -- Laws of tests and causes, as the code makes them. Assumes nothing.
-use Prim.Native.Nat.{ℕ, _+_, _≤_, _<_}
+use Prim.Native.Nat.{ℕ, _+_, _<_}
 use mathlib.Core.Path.{_≡_, refl, sym, ap, _∙_}
 use mathlib.Core.Bool.{Bool, true, false, not, _&&_, _||_}
 use mathlib.Core.List.{List, [], _∷_}
 use native.Mathlib.Omega.{arith}
-use lib.ListN.{length}
-use lib.Dec.{eqb, ltb}
-use borrow.Author.Tests.{ltb-false, eqb-true, eqb-false, not-true, not-false}
+use lib.Dec.{eqb}
+use borrow.Author.Tests.{eqb-true, eqb-false, not-true, not-false}
 use types.Run.{OneOf, miss}
 use denote.Enum.Declared.{tagOf}
 use Rattle.rym1.proofs.Cause.{the-type}
@@ -15,9 +14,8 @@ use Rattle.rym1.specs.declared.Cause.the-variants.{Nothing, FileShort, MarkWron
 use Rattle.rym1.specs.declared.Cause.the-variants.{CoordinateOutside, MassNotFinite, ScratchShort, OutputShort, NotWorking}
 use Rattle.rym1.specs.declared.Cause.the-variants.{JournalWrong, CellEmpty, JournalFull, BufferFull, NoEntry, EntryWrong}
 use Rattle.rym1.specs.Bytes.{word32}
-use Rattle.rym1.specs.Causes.{number, when}
-use Rattle.rym1.specs.File.{finite, allFinite, headerFloats, density, volume, scale, boxMin, boxMax, grid, count, size, headerCause}
-use Rattle.rym1.proofs.Causes.{when-zero, first-zero-l, first-zero-r}
+use Rattle.rym1.specs.Causes.{number}
+use Rattle.rym1.specs.File.{finite, allFinite, headerFloats, density, volume, scale, boxMin, boxMax}
 
 -- ---- tests
 
@@ -90,17 +88,3 @@ pub not-three : (p q r : Bool) → (not p || (not q || not r)) ≡ not (p && (q 
 not-three true true r = refl
 not-three true false r = refl
 not-three false q r = refl
-
--- a header that is not refused: the file is long enough for it, and for its records
-pub header-long : (f : List ℕ) → headerCause f ≡ 0 → 64 ≤ length f
-unfolding headerCause
-header-long f e = ltb-false (length f) 64 (when-zero (ltb (length f) 64) 0 (first-zero-l (when (ltb (length f) 64) 1) _ e))
-
-pub header-room : (f : List ℕ) → headerCause f ≡ 0 → size (count f) ≤ length f
-unfolding headerCause
-header-room f e =
-    let missing = ltb (length f) (size (count f)) in
-    let k2 = first-zero-r (when (ltb (length f) 64) 1) _ e in
-    let k3 = first-zero-r (when (not (eqb (word32 f 0) 0x314d5952) || not (eqb (word32 f 4) 1)) 2) _ k2 in
-    let k4 = first-zero-r (when (eqb (grid f) 0 || ltb 256 (grid f)) 3) _ k3 in
-    ltb-false (length f) (size (count f)) (when-zero missing 3 (first-zero-l (when missing 4) _ k4))

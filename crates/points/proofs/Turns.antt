@@ -7,8 +7,7 @@ use native.Mathlib.Omega.{arith}
 use borrow.Author.Tests.{le-leb, lt-leb, eq-eqb, ne-eqb}
 use Rattle.rym1.specs.declared.Point.{Point}
 use Rattle.rym1.specs.File.{pointAt, pointsAt, cellOf, pointCause, pointsCause, working}
-use Rattle.rym1.proofs.Causes.{first-found, first-none, first-zero-l, first-zero-r}
-use Rattle.rym1.proofs.Accepted.{Sound, sound}
+use Rattle.rym1.proofs.Causes.{first-found, first-none}
 
 -- at least one record is left: it, and the others
 pub points-more : (f : List ℕ) (at left : ℕ) → 0 < left → pointsAt f at left ≡ pointAt f at ∷ pointsAt f (at + 16) (left - 1)
@@ -34,18 +33,6 @@ unfolding pointsCause pointsAt
 cause-end f g at left h =
     let e : left ≡ 0 = omega arith in
     rw e
-
--- ---- no cause
-
-pub sound-now : (f : List ℕ) (g at left : ℕ) (p : Point) → 0 < left → p ≡ pointAt f at → pointsCause g (pointsAt f at left) ≡ 0 → Sound g p
-unfolding pointsCause
-sound-now f g at left p h e z =
-    sound g p (first-zero-l (pointCause g p) (pointsCause g (pointsAt f (at + 16) (left - 1))) (rw (points-more f at left h, ← e) at z))
-
-pub sound-next : (f : List ℕ) (g at left : ℕ) → 0 < left → pointsCause g (pointsAt f at left) ≡ 0 → pointsCause g (pointsAt f (at + 16) (left - 1)) ≡ 0
-unfolding pointsCause
-sound-next f g at left h z =
-    first-zero-r (pointCause g (pointAt f at)) (pointsCause g (pointsAt f (at + 16) (left - 1))) (rw (points-more f at left h) at z)
 
 -- ---- the working form
 

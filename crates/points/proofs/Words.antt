@@ -1,9 +1,8 @@
 -- Laws of the lookup in lent words: each record that is entered counts over the earlier ones, and the words that are not 0 are the occupied cells. Assumes nothing.
 use Prim.Native.Nat.{ℕ, zero, suc, _+_, _-_, _*_, _≤_, _<_}
 use mathlib.Core.Path.{_≡_, refl, sym, ap, _∙_}
-use mathlib.Core.Bool.{Bool, true, false}
-use mathlib.Core.Option.{Option, none, some}
-use mathlib.Core.List.{List, [], _∷_, _++_}
+use mathlib.Core.Option.{none}
+use mathlib.Core.List.{List}
 use native.Mathlib.Nat.{zero-add, sub-zero}
 use native.Mathlib.Numerals.{add-one}
 use native.Mathlib.Decide.{ℕ-discrete}
@@ -13,10 +12,10 @@ use lib.Seq.{getD-set-same, getD-set-other}
 use Rattle.rym1.specs.declared.Point.{Point}
 use Rattle.rym1.specs.Bytes.{splice}
 use Rattle.rym1.specs.File.{grid, count, size, pointAt, pointsAt, points, cell, cellOf, cube, fileCause}
-use Rattle.rym1.specs.Cells.{Masses, Slot, vacant, held, massesOf, named, later, lookFrom, look, massesIn, massMap, atCell, recordsFrom, records}
+use Rattle.rym1.specs.Cells.{Slot, vacant, held, named, later, lookFrom, look, massesIn, massMap, atCell, recordsFrom, records}
 use Rattle.rym1.specs.Open.{occupied, occupiedOf}
 use Rattle.rym1.proofs.Bytes.{length-splice, splice-snoc, splice-inside}
-use Rattle.rym1.proofs.Accepted.{Inside, accepted, file-sound}
+use Rattle.rym1.proofs.Accepted.{Inside, accepted, accepted-points, inside-at}
 use Rattle.rym1.proofs.Cells.{named-same, named-other}
 use Rattle.points.specs.Lookup.{slotWord, Looked, one, marked}
 
@@ -94,7 +93,7 @@ point-there f at i n ok en ea h = omega (arith, ea, en, h, accepted f ok .room)
 pub point-inside : (f : List ℕ) (g at i n : ℕ) (p : Point) → fileCause f ≡ 0 → g ≡ grid f → n ≡ count f → at ≡ 64 + 16 * i → i < n → p ≡ pointAt f at
     → (g ≤ 256) × Inside g (p .x) (p .y) (p .z)
 point-inside f g at i n p ok eg en ea h ep =
-    rw (eg, ep, ea) (accepted f ok .grid-few, file-sound f i ok (omega (arith, en, h)) .place)
+    (rw eg (accepted f ok .grid-few), inside-at g f at n i p (rw (eg, en) (unfold points in accepted-points f ok)) ea h ep)
 
 -- ---- words that are not 0
 

@@ -1,8 +1,8 @@
 -- What is known of a point file that causes 1 to 7 do not refuse, and of each of its records. Assumes nothing.
 use Prim.Native.Nat.{ℕ, zero, suc, _+_, _*_, _≤_, _<_}
-use mathlib.Core.Path.{_≡_, refl, sym, ap, _∙_}
-use mathlib.Core.Bool.{Bool, true, false, not, _&&_, _||_}
-use mathlib.Core.List.{List, [], _∷_}
+use mathlib.Core.Path.{_≡_}
+use mathlib.Core.Bool.{true, not, _||_}
+use mathlib.Core.List.{List}
 use native.Mathlib.Nat.{add-zero}
 use native.Mathlib.Omega.{arith}
 use lib.ListN.{length}
@@ -71,8 +71,14 @@ each-sound g f at (suc n) (suc i) e h =
     let there : at + 16 + 16 * i ≡ at + 16 * suc i = omega arith in
     rw there at (each-sound g f (at + 16) n i (first-zero-r (pointCause g (pointAt f at)) _ e) (omega arith))
 
+-- where record i lies in the grid
+pub inside-at : (g : ℕ) (f : List ℕ) (at n i : ℕ) (p : Point) → pointsCause g (pointsAt f 64 n) ≡ 0 → at ≡ 64 + 16 * i → i < n → p ≡ pointAt f at
+    → Inside g (p .x) (p .y) (p .z)
+inside-at g f at n i p e a h ep = rw (ep, a) (sound g (pointAt f (64 + 16 * i)) (each-sound g f 64 n i e h) .place)
+
 -- ---- a file
 
+-- the header, and that the records are there
 pub record Accepted (f : List ℕ) : Type 0 where
   pub long : 64 ≤ length f
   pub mark : word32 f 0 ≡ 0x314d5952
@@ -82,19 +88,17 @@ pub record Accepted (f : List ℕ) : Type 0 where
   pub room : size (count f) ≤ length f
   pub floats : allFinite (headerFloats f) ≡ true
   pub box : (below f 0 ≡ true) × (below f 1 ≡ true) × (below f 2 ≡ true)
-  pub sound-points : pointsCause (grid f) (points f) ≡ 0
 
-pub accepted : (f : List ℕ) → fileCause f ≡ 0 → Accepted f
-unfolding fileCause headerCause
-accepted f e =
-    let header = first-zero-l (headerCause f) (pointsCause (grid f) (points f)) e in
+pub accepted-header : (f : List ℕ) → headerCause f ≡ 0 → Accepted f
+unfolding headerCause
+accepted-header f e =
     let short = ltb (length f) 64 in
     let wrong = not (eqb (word32 f 0) 0x314d5952) || not (eqb (word32 f 4) 1) in
     let off = eqb (grid f) 0 || ltb 256 (grid f) in
     let missing = ltb (length f) (size (count f)) in
     let box = not (below f 0) || (not (below f 1) || not (below f 2)) in
     let floats = not (allFinite (headerFloats f)) || box in
-    let k2 = first-zero-r (when short 1) _ header in
+    let k2 = first-zero-r (when short 1) _ e in
     let k3 = first-zero-r (when wrong 2) _ k2 in
     let k4 = first-zero-r (when off 3) _ k3 in
     let k5 = first-zero-r (when missing 4) _ k4 in
@@ -104,7 +108,7 @@ accepted f e =
     let boxed = or-false-r (not (allFinite (headerFloats f))) box all in
     let boxed2 = or-false-r (not (below f 0)) (not (below f 1) || not (below f 2)) boxed in
     record {
-      long = ltb-false (length f) 64 (when-zero short 0 (first-zero-l (when short 1) _ header));
+      long = ltb-false (length f) 64 (when-zero short 0 (first-zero-l (when short 1) _ e));
       mark = eqb-true (word32 f 0) 0x314d5952 (not-false _ (or-false-l (not (eqb (word32 f 0) 0x314d5952)) (not (eqb (word32 f 4) 1)) right));
       version = eqb-true (word32 f 4) 1 (not-false _ (or-false-r (not (eqb (word32 f 0) 0x314d5952)) (not (eqb (word32 f 4) 1)) right));
       grid-pos = omega (arith, eqb-false (grid f) 0 (or-false-l (eqb (grid f) 0) (ltb 256 (grid f)) on));
@@ -116,13 +120,21 @@ accepted f e =
         not-false (below f 1) (or-false-l (not (below f 1)) (not (below f 2)) boxed2),
         not-false (below f 2) (or-false-r (not (below f 1)) (not (below f 2)) boxed2),
       );
-      sound-points = first-zero-r (headerCause f) (pointsCause (grid f) (points f)) e;
     }
 
+pub accepted : (f : List ℕ) → fileCause f ≡ 0 → Accepted f
+unfolding fileCause
+accepted f e = accepted-header f (first-zero-l (headerCause f) (pointsCause (grid f) (points f)) e)
+
+-- its records
+pub accepted-points : (f : List ℕ) → fileCause f ≡ 0 → pointsCause (grid f) (points f) ≡ 0
+unfolding fileCause
+accepted-points f e = first-zero-r (headerCause f) (pointsCause (grid f) (points f)) e
+
 -- and such a file is refused by none of them
-pub by-none : (f : List ℕ) → Accepted f → fileCause f ≡ 0
+pub by-none : (f : List ℕ) → Accepted f → pointsCause (grid f) (points f) ≡ 0 → fileCause f ≡ 0
 unfolding fileCause headerCause when first
-by-none f a =
+by-none f a sound-points =
     rw (
       le-ltb (length f) 64 (a .long),
       eq-eqb (word32 f 0) 0x314d5952 (a .mark),
@@ -134,9 +146,5 @@ by-none f a =
       a .box .0,
       a .box .1,
       a .box .2,
-      a .sound-points,
+      sound-points,
     )
-
--- of a file that is not refused, each record
-pub file-sound : (f : List ℕ) (i : ℕ) → fileCause f ≡ 0 → i < count f → Sound (grid f) (pointAt f (64 + 16 * i))
-file-sound f i e h = sound (grid f) (pointAt f (64 + 16 * i)) (each-sound (grid f) f 64 (count f) i (unfold points in accepted f e .sound-points) h)

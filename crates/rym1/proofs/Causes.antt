@@ -1,7 +1,7 @@
 -- Laws of causes: what is known where none is found. Assumes nothing.
-use Prim.Native.Nat.{ℕ, zero, suc, _≤_, _<_}
-use mathlib.Core.Path.{_≡_, refl, sym, ap, _∙_}
-use mathlib.Core.Bool.{Bool, true, false, not, _&&_, _||_}
+use Prim.Native.Nat.{ℕ, zero, suc, _<_}
+use mathlib.Core.Path.{_≡_, refl}
+use mathlib.Core.Bool.{Bool, true, false, _&&_, _||_}
 use native.Mathlib.Omega.{arith}
 use Rattle.rym1.specs.Causes.{when, first, Outcome, outcome, refuse}
 
@@ -57,8 +57,3 @@ pub refuse-found : {B : Type 0} (k : ℕ) (s : B) (done : Outcome B) → 0 < k �
 unfolding refuse outcome
 refuse-found zero s done h = absurd (omega arith)
 refuse-found (suc k) s done h = refl
-
-pub refuse-none : {B : Type 0} (k : ℕ) (s : B) (done : Outcome B) → k ≡ 0 → refuse k s done ≡ done
-unfolding refuse
-refuse-none zero s done e = refl
-refuse-none (suc k) s done e = absurd (omega arith)

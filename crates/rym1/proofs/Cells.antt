@@ -1,7 +1,7 @@
 -- Laws of cells: their numbers, the records of a map, and what is looked up among records. Assumes nothing.
 use Prim.Native.Nat.{ℕ, zero, suc, _+_, _-_, _*_, _/_, _%_, _≤_, _<_}
 use mathlib.Core.Path.{_≡_, refl, sym, ap, _∙_}
-use mathlib.Core.Bool.{Bool, true, false, not, _&&_, cond}
+use mathlib.Core.Bool.{Bool, true, false, not, cond}
 use mathlib.Core.Option.{Option, none, some}
 use mathlib.Core.List.{List, [], _∷_, _++_}
 use native.Mathlib.Nat.{add-zero, zero-add, suc-add, add-suc, div-add-mod', mod-lt, div-lt-iff-lt-mul, mul-le-mul}
@@ -13,10 +13,10 @@ use lib.Arith.{digits-lt, digits-div, digits-mod}
 use borrow.Author.Tests.{leb-true, le-leb, eq-eqb, eqb-true, ne-eqb, lt-leb}
 use Rattle.rym1.specs.declared.Point.{Point}
 use Rattle.rym1.specs.Causes.{when, first}
-use Rattle.rym1.specs.File.{pointAt, pointsAt, cell, cellOf, cube, finite, placeCause, massCause, pointCause, pointsCause, working}
+use Rattle.rym1.specs.File.{pointAt, pointsAt, cell, cellOf, cube, placeCause, massCause, pointCause, pointsCause, working}
 use Rattle.rym1.specs.Cells.{Masses, Map, Slot, vacant, held, massesOf, named, later, lookFrom, massesIn, cellPoint, atCell, recordsFrom, records}
 use Rattle.rym1.proofs.Causes.{and-true-l, and-true-r, first-zero-l, first-zero-r, first-none}
-use Rattle.rym1.proofs.Accepted.{Inside, Finite, Sound, sound, finite-fits}
+use Rattle.rym1.proofs.Accepted.{Inside, Finite, sound, finite-fits}
 use Rattle.rym1.proofs.Points.{Fits, AllFit, same-point}
 
 -- ---- numbers of cells
@@ -152,11 +152,6 @@ pub later-vacant : (s : Slot) → later s vacant ≡ s
 unfolding later
 later-vacant vacant = refl
 later-vacant (held i m) = refl
-
-pub later-later : (a b c : Slot) → later (later a b) c ≡ later a (later b c)
-unfolding later
-later-later vacant b c = refl
-later-later (held i m) b c = refl
 
 -- a record and the cell that it names; any other cell
 pub named-same : (g i : ℕ) (p : Point) (c : ℕ) → cellOf g p ≡ c → named g i p c ≡ held i (massesOf p)

@@ -1,6 +1,5 @@
 -- Worked examples of point files, in literal bytes, as one table that one result judges (`models`): why a file is refused, and what open answers and leaves.
 -- Assumes nothing.
-use mathlib.Core.Path.{_≡_, refl}
 use mathlib.Core.Bool.{Bool, true, false, _&&_}
 use mathlib.Core.List.{List, [], _∷_, _++_}
 use Prim.Native.Nat.{ℕ}
@@ -14,7 +13,7 @@ use Rattle.rym1.specs.File.{finite, allFinite, headerFloats, below, plac
 use Rattle.rym1.specs.Cells.{massesOf, named, later, lookFrom, look, massesIn, massMap, cellPoint, atCell, recordsFrom, records}
 use Rattle.rym1.specs.Open.{counted, fileOf, occupiedOf, occupied, opened, both, openCause, openFile}
 
--- the bytes of a header: the grid and the count as two bytes each, density 1, cell volume 0.5, scale 2, a word that is not read, the box, raw sums not read
+-- the bytes of a header: the grid's two low bytes, the count's lowest, density 1, cell volume 0.5, scale 2, a word that is not read, the box, raw sums not read
 abbrev headed : ℕ → ℕ → ℕ → List ℕ → List ℕ
 headed g0 g1 n box =
     (0x52 ∷ 0x59 ∷ 0x4d ∷ 0x31 ∷ 1 ∷ 0 ∷ 0 ∷ 0 ∷ g0 ∷ g1 ∷ 0 ∷ 0 ∷ n ∷ 0 ∷ 0 ∷ 0 ∷ [])

@@ -1,28 +1,27 @@
 -- Files in working form. What open makes of an accepted file is accepted, is in working form, has the same map of masses, and is what open makes of it again;
 -- and a file in working form is what open makes of it, so that two with one header and one map are equal byte for byte. Assumes nothing.
-use Prim.Native.Nat.{ℕ, zero, suc, _+_, _-_, _*_, _≤_, _<_}
+use Prim.Native.Nat.{ℕ, _+_, _*_, _≤_, _<_}
 use mathlib.Core.Path.{_≡_, refl, sym, ap, _∙_, fun-ext}
 use mathlib.Core.Bool.{Bool, true, false, not}
 use mathlib.Core.Logic.{_⊎_, inl, inr}
-use mathlib.Core.Option.{Option, none, some}
-use mathlib.Core.List.{List, [], _∷_, _++_, append-assoc}
+use mathlib.Core.List.{List, _++_, append-assoc}
 use native.Mathlib.Nat.{zero-add}
 use native.Mathlib.Omega.{arith}
-use lib.ListN.{length, take, drop, length-append, length-take}
+use lib.ListN.{length, take, drop, length-append}
 use lib.Dec.{ltb}
-use lib.Seq.{length-take-le, take-append-le, take-at, take-add, take-take}
+use lib.Seq.{length-take-le, take-at, take-add}
 use borrow.Author.Tests.{ltb-true, ltb-false, not-false}
 use Rattle.rym1.specs.declared.Point.{Point}
-use Rattle.rym1.specs.Bytes.{word, word32, le, splice}
+use Rattle.rym1.specs.Bytes.{word, le, splice}
 use Rattle.rym1.specs.Causes.{when}
-use Rattle.rym1.specs.File.{grid, count, density, volume, scale, boxMin, boxMax, pointsAt, points, pointsBytes, size, cube, allFinite, headerFloats, below, pointsCause, fileCause, working, workCause}
-use Rattle.rym1.specs.Cells.{Masses, Map, vacant, lookFrom, look, massesIn, massMap, recordsFrom, records}
+use Rattle.rym1.specs.File.{grid, count, density, volume, scale, boxMin, boxMax, pointsAt, points, pointsBytes, size, cube, headerFloats, below, pointsCause, fileCause, working, workCause}
+use Rattle.rym1.specs.Cells.{lookFrom, look, massesIn, massMap, records}
 use Rattle.rym1.specs.Open.{counted, fileOf, occupiedOf, occupied, opened}
 use Rattle.rym1.proofs.Bytes.{AllBytes, length-le, length-splice, word-take, word-append-left, word-splice-before, word-splice-behind, word-splice-fits, splice-over, splice-word, take-bytes}
 use Rattle.rym1.proofs.Causes.{when-zero}
-use Rattle.rym1.proofs.Accepted.{Accepted, accepted, by-none}
+use Rattle.rym1.proofs.Accepted.{Accepted, accepted, accepted-points, by-none}
 use Rattle.rym1.proofs.Points.{AllFit, length-points, points-at, points-bytes, length-points-at}
-use Rattle.rym1.proofs.Cells.{AllFinite, mapOf, cube-few, records-ext, records-few, records-cause, records-fit, records-working, look-outside, map-finite, map-records, working-records}
+use Rattle.rym1.proofs.Cells.{AllFinite, cube-few, records-few, records-cause, records-fit, records-working, look-outside, map-finite, map-records, working-records}
 
 -- ---- headers
 
@@ -53,9 +52,9 @@ pub same-below : (f f′ : List ℕ) → SameHeader f f′ → (axis : ℕ) → 
 unfolding below boxMin boxMax
 same-below f f′ s axis h = rw (s (32 + 4 * axis) (omega arith) (inr (omega arith)), s (44 + 4 * axis) (omega arith) (inr (omega arith)))
 
--- a file with an accepted header, its records there and sound
-pub header-accepted : (f f′ : List ℕ) → SameHeader f f′ → Accepted f → 64 ≤ length f′ → size (count f′) ≤ length f′ → pointsCause (grid f) (points f′) ≡ 0 → Accepted f′
-header-accepted f f′ s a long room e =
+-- a file with an accepted header, its records there
+pub header-accepted : (f f′ : List ℕ) → SameHeader f f′ → Accepted f → 64 ≤ length f′ → size (count f′) ≤ length f′ → Accepted f′
+header-accepted f f′ s a long room =
     record {
       long = long;
       mark = sym (s 0 (omega arith) (inl (omega arith))) ∙ a .mark;
@@ -69,7 +68,6 @@ header-accepted f f′ s a long room e =
         sym (same-below f f′ s 1 (omega arith)) ∙ a .box .1,
         sym (same-below f f′ s 2 (omega arith)) ∙ a .box .2,
       );
-      sound-points = rw (same-grid f f′ s) at e;
     }
 
 pub same-take : (f : List ℕ) → SameHeader f (take 64 f)
@@ -133,7 +131,7 @@ module _ (f : List ℕ) (ok : fileCause f ≡ 0) where
 
   pub finite-map : AllFinite (massMap f)
   unfolding massMap look
-  finite-map = map-finite (grid f) 0 (points f) (a .sound-points)
+  finite-map = map-finite (grid f) 0 (points f) (accepted-points f ok)
 
   pub occupied-few : occupied f ≤ 16777216
   unfolding occupied occupiedOf records
@@ -145,6 +143,10 @@ module _ (f : List ℕ) (ok : fileCause f ≡ 0) where
   fit : AllFit (occupiedOf f)
   unfolding occupiedOf records
   fit = records-fit (grid f) (a .grid-pos) (massMap f) finite-map (a .grid-few) 0 (cube (grid f)) (omega arith)
+
+  occupied-sound : pointsCause (grid f) (occupiedOf f) ≡ 0
+  unfolding occupiedOf records
+  occupied-sound = records-cause (grid f) (a .grid-pos) (massMap f) finite-map 0 (cube (grid f)) (omega arith)
 
   pub length-opened : length (opened f) ≡ size (occupied f)
   unfolding opened occupied
@@ -167,12 +169,12 @@ module _ (f : List ℕ) (ok : fileCause f ≡ 0) where
     opened-points = points-laid (take 64 f) h-long (occupiedOf f) rest few fit
 
     pub opened-accepted : fileCause (opened f ++ rest) ≡ 0
-    unfolding occupiedOf records
     opened-accepted =
-        by-none (opened f ++ rest) (header-accepted f (opened f ++ rest) same-opened a
+        by-none (opened f ++ rest)
+        (header-accepted f (opened f ++ rest) same-opened a
         (omega (arith, length-append (opened f) rest, size-is))
-        (rw opened-count (omega (arith, length-append (opened f) rest, length-opened)))
-        (rw opened-points (records-cause (grid f) (a .grid-pos) (massMap f) finite-map 0 (cube (grid f)) (omega arith))))
+        (rw opened-count (omega (arith, length-append (opened f) rest, length-opened))))
+        (rw (opened-grid, opened-points) occupied-sound)
       where
         size-is : 64 ≤ length (opened f)
         size-is = rw length-opened (unfold size in omega arith)
@@ -191,11 +193,8 @@ module _ (f : List ℕ) (ok : fileCause f ≡ 0) where
         go c false e =
             let past : cube (grid f) ≤ c = ltb-false c (cube (grid f)) e in
             ap massesIn
-            (look-outside (grid f) 0 (occupiedOf f) c sound past
-            ∙ sym (look-outside (grid f) 0 (points f) c (a .sound-points) past))
-          where
-            sound : pointsCause (grid f) (occupiedOf f) ≡ 0
-            sound = unfold occupiedOf records in records-cause (grid f) (a .grid-pos) (massMap f) finite-map 0 (cube (grid f)) (omega arith)
+            (look-outside (grid f) 0 (occupiedOf f) c occupied-sound past
+            ∙ sym (look-outside (grid f) 0 (points f) c (accepted-points f ok) past))
 
     again-records : occupiedOf (opened f ++ rest) ≡ occupiedOf f
     unfolding occupiedOf
@@ -223,7 +222,7 @@ module _ (f : List ℕ) (ok : fileCause f ≡ 0) (works : workCause f ≡ 0) whe
   working-points =
       working-records (grid f) 0 0 (cube (grid f)) (points f)
       (not-false (working (grid f) 0 (points f)) (when-zero (not (working (grid f) 0 (points f))) 9 works))
-      (accepted f ok .sound-points) (zero-add (cube (grid f)))
+      (accepted-points f ok) (zero-add (cube (grid f)))
 
   pub working-count : occupied f ≡ count f
   unfolding occupied points

@@ -1,14 +1,14 @@
 -- Laws of records as bytes: what is read of records that were written, and what reading and writing leaves. Assumes nothing.
-use Prim.Native.Nat.{ℕ, zero, suc, _+_, _-_, _*_, _≤_, _<_}
+use Prim.Native.Nat.{ℕ, zero, suc, _+_, _*_, _≤_, _<_}
 use mathlib.Core.Path.{_≡_, refl, sym, ap, _∙_}
 use mathlib.Core.List.{List, [], _∷_, _++_, append-assoc}
 use native.Mathlib.Nat.{add-zero, add-assoc}
 use native.Mathlib.Omega.{arith}
-use lib.ListN.{length, getD, take, drop, length-append}
+use lib.ListN.{length, take, drop, length-append}
 use Rattle.rym1.specs.declared.Point.{Point}
 use Rattle.rym1.specs.Bytes.{word, le}
 use Rattle.rym1.specs.File.{pointAt, pointsAt, pointBytes, pointsBytes}
-use Rattle.rym1.proofs.Bytes.{AllBytes, length-le, le-word, word-lt, word-append-left, word-append-right, word-le-fits, part-part}
+use Rattle.rym1.proofs.Bytes.{AllBytes, le-word, word-append-left, word-append-right, word-le-fits, part-part}
 
 -- each number fits its bytes
 pub record Fits (p : Point) : Type 0 where
@@ -65,19 +65,7 @@ point-zero p h =
 pub point-at : (p : List ℕ) (r : Point) (q : List ℕ) (at : ℕ) → length p ≡ at → Fits r → pointAt (p ++ (pointBytes r ++ q)) at ≡ r
 point-at p r q at e h = point-behind p (pointBytes r) q at e (length-point r) ∙ point-zero r h
 
--- what is read fits, and written it is what stood there
-pub point-fits : (f : List ℕ) (at : ℕ) → AllBytes f → Fits (pointAt f at)
-unfolding pointAt
-point-fits f at all =
-    record {
-      x = word-lt 2 f at all;
-      y = word-lt 2 f (at + 2) all;
-      z = word-lt 2 f (at + 4) all;
-      pad = word-lt 2 f (at + 6) all;
-      cauchy = word-lt 4 f (at + 8) all;
-      elliptic = word-lt 4 f (at + 12) all;
-    }
-
+-- what is read and written again is what stood there
 pub point-bytes : (f : List ℕ) (at : ℕ) → AllBytes f → at + 16 ≤ length f → pointBytes (pointAt f at) ≡ take 16 (drop at f)
 unfolding pointAt pointBytes
 point-bytes f at all h =
@@ -129,12 +117,3 @@ points-bytes f at zero all h = refl
 points-bytes f at (suc n) all h =
     let more : 16 * suc n ≡ 16 + 16 * n = omega arith in
     rw (point-bytes f at all (omega arith), points-bytes f (at + 16) n all (omega arith), more) (part-part 16 (16 * n) f at)
-
--- the record of an index
-pub point-of : (f : List ℕ) (at n i : ℕ) → i < n → (d : Point) → getD (pointsAt f at n) i d ≡ pointAt f (at + 16 * i)
-unfolding pointsAt
-point-of f at zero i h d = absurd (omega arith)
-point-of f at (suc n) zero h d = rw (add-zero at)
-point-of f at (suc n) (suc i) h d =
-    let e : at + 16 + 16 * i ≡ at + 16 * suc i = omega arith in
-    point-of f (at + 16) n i (omega arith) d ∙ ap (λ (k : ℕ). pointAt f k) e

@@ -1,7 +1,7 @@
 -- The point file RYM1: its fields and records, and why a reader refuses it. Definitions only.
 -- A float stands as its binary32 pattern.
 use Prim.Native.Nat.{ℕ, zero, suc, _+_, _*_}
-use mathlib.Core.Bool.{Bool, true, false, not, _&&_, _||_}
+use mathlib.Core.Bool.{Bool, true, not, _&&_, _||_}
 use mathlib.Core.List.{List, [], _∷_, _++_}
 use lib.ListN.{length}
 use lib.Dec.{eqb, leb, ltb}

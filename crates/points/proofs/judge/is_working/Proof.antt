@@ -1,24 +1,25 @@
--- `points::judge::is_working` meets its contract: the invariant: the form of all records is that of the records left, from `low` on, and these have no cause. Assumes nothing.
-use Prim.Native.Nat.{_+_, _*_}
+-- `points::judge::is_working` meets its contract: the form of all records is that of the records left, from `low` on. Assumes nothing.
+use Prim.Native.Nat.{_+_, _*_, _-_, _≤_}
 use mathlib.Core.Path.{_≡_, refl, sym, _∙_}
 use native.Mathlib.Omega.{arith}
-use Rattle.rym1.specs.File.{pointsAt, size, cellOf, pointsCause, working}
+use Rattle.rym1.specs.File.{pointsAt, size, cellOf, working}
+use Rattle.rym1.proofs.Accepted.{inside-at}
 use Rattle.rym1.proofs.Cells.{cube-few}
-use Rattle.points.proofs.Turns.{sound-now, sound-next, work-low, work-pad, work-go, work-end}
+use Rattle.points.proofs.Turns.{work-low, work-pad, work-go, work-end}
 use Rattle.points.proofs.judge.is_working.Statement.{statement}
 use Rattle.points.proofs.judge.is_working.Tie as tie
 
 abbrev Inv-loop : tie.InvT-loop
 Inv-loop file g n at₀ left₀ low₀ at left low =
-    (at + 16 * left ≡ 64 + 16 * n)
-    × (pointsCause g (pointsAt file at left) ≡ 0)
+    (left ≤ n)
+    × (at + 16 * left ≡ 64 + 16 * n)
     × (working g 0 (pointsAt file 64 n) ≡ working g low (pointsAt file at left))
 
 abbrev μ-loop : tie.MeasureT-loop
 μ-loop file g n at₀ left₀ low₀ at left low = left
 
 loop-holds : tie.Need-loop-holds Inv-loop μ-loop
-loop-holds c = (refl, c .before .pre .1, refl)
+loop-holds c = (omega arith, refl, refl)
 
 point-at-requires : tie.Need-point-at-requires Inv-loop μ-loop
 unfolding size
@@ -30,7 +31,7 @@ cell-number-requires c κs =
     let start = c .before .before .before .before in
     let args = start .args in (
       start .pre .0 .1,
-      sound-now (args .file .now) (args .g) (loop .at) (loop .left) (c .point-at .result) (c .before .loop-test .taken) (c .point-at .ensures) (loop .inv .1) .place,
+      inside-at (args .g) (args .file .now) (loop .at) (args .n) (args .n - loop .left) (c .point-at .result) (start .pre .1) (omega arith) (omega arith) (c .point-at .ensures),
     )
 
 returns : tie.Need-returns Inv-loop μ-loop
@@ -83,7 +84,7 @@ loop-again c =
     let loop = at-4 .before .before .loop in
     let args = at-4 .before .before .before .before .args in (
       omega arith,
-      sound-next (args .file .now) (args .g) (loop .at) (loop .left) (test .taken) (loop .inv .1),
+      omega arith,
       loop .inv .2
           ∙ work-go (args .file .now) (args .g) (loop .low) (loop .at) (loop .left) (cell .result) (point .result) (test .taken) (point .ensures) (cell .ensures .0) (omega arith) (c .if2 .left),
     )

@@ -4,7 +4,8 @@ use borrow.Author.Needs.{needs}
 use Rattle.rym1.specs.Causes.{number, first}
 use Rattle.rym1.specs.File.{grid, count, points, pointsCause, fileCause}
 use Rattle.rym1.proofs.Causes.{first-found}
-use Rattle.points.proofs.Refused.{refused, not-refused, header-long, header-room}
+use Rattle.points.proofs.Refused.{refused, not-refused}
+use Rattle.rym1.proofs.Accepted.{accepted-header}
 use Rattle.points.proofs.judge.parse_mascon_bytes.Statement.{statement}
 use Rattle.points.proofs.judge.parse_mascon_bytes.Tie as tie
 
@@ -26,21 +27,21 @@ grid-requires : tie.Need-grid-requires
 grid-requires c κs =
     let header = c .before .before .header-cause in
     let none = not-refused (number (header .result)) (c .before .is-refused .ensures) (c .if1 .left) in
-    header-long (c .before .before .before .before .args .file .now) (sym (header .ensures) ∙ none)
+    accepted-header (c .before .before .before .before .args .file .now) (sym (header .ensures) ∙ none) .long
 
 count-requires : tie.Need-count-requires
 count-requires c κs =
     let at-3 = c .before .before .before in
     let header = at-3 .header-cause in
     let none = not-refused (number (header .result)) (c .before .before .is-refused .ensures) (c .before .if1 .left) in
-    header-long (at-3 .before .before .args .file .now) (sym (header .ensures) ∙ none)
+    accepted-header (at-3 .before .before .args .file .now) (sym (header .ensures) ∙ none) .long
 
 points-cause-requires : tie.Need-points-cause-requires
 points-cause-requires c κs =
     let at-4 = c .before .before .before .before in
     let header = at-4 .header-cause in
     let none = not-refused (number (header .result)) (c .before .before .before .is-refused .ensures) (c .before .before .if1 .left) in
-    rw (c .count .ensures) (header-room (at-4 .before .before .args .file .now) (sym (header .ensures) ∙ none))
+    rw (c .count .ensures) (accepted-header (at-4 .before .before .args .file .now) (sym (header .ensures) ∙ none) .room)
 
 returns-2 : tie.Need-returns-2
 unfolding fileCause points first

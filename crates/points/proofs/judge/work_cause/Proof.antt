@@ -1,7 +1,7 @@
 -- `points::judge::work_cause` meets its contract: the file is accepted, so its records may be judged. Assumes nothing.
 use Rattle.rym1.specs.Causes.{number, when}
 use Rattle.rym1.specs.File.{points, workCause}
-use Rattle.rym1.proofs.Accepted.{accepted}
+use Rattle.rym1.proofs.Accepted.{accepted, accepted-points}
 use Rattle.points.proofs.judge.work_cause.Statement.{statement}
 use Rattle.points.proofs.judge.work_cause.Tie as tie
 
@@ -16,7 +16,7 @@ unfolding points
 is-working-requires c κs =
     let start = c .before .before .before in
     let good = accepted (start .args .file .now) (start .pre) in
-    rw (c .count .ensures, c .before .grid .ensures) ((good .room, good .grid-few), good .sound-points)
+    rw (c .count .ensures, c .before .grid .ensures) ((good .room, good .grid-few), accepted-points (start .args .file .now) (start .pre))
 
 returns : tie.Need-returns
 unfolding number workCause points when

@@ -1,6 +1,6 @@
 -- `points::lookup::cells` meets its contract. Assumes nothing.
-use Prim.Native.Nat.{_*_, _≤_, _<_}
-use mathlib.Core.Path.{_≡_, refl, sym}
+use Prim.Native.Nat.{_*_, _≤_}
+use mathlib.Core.Path.{refl}
 use native.Mathlib.Nat.{mul-le-mul}
 use native.Mathlib.Omega.{arith}
 use Rattle.rym1.specs.File.{cube}

@@ -1,9 +1,9 @@
 -- `points::lookup::count_marked` meets its contract: what is found with what is to come is all of it. Assumes nothing.
-use Prim.Native.Nat.{ℕ, _+_, _-_, _≤_}
-use mathlib.Core.Path.{_≡_, refl, sym, ap, _∙_}
+use Prim.Native.Nat.{_+_, _-_, _≤_}
+use mathlib.Core.Path.{_≡_}
 use mathlib.Core.Logic.{⊎-elim}
 use native.Mathlib.Omega.{arith}
-use lib.ListN.{length, getD}
+use lib.ListN.{getD}
 use Rattle.points.specs.Lookup.{marked, one}
 use Rattle.points.proofs.Words.{marked-start, marked-turn, marked-end, one-zero, one-more}
 use borrow.Author.Needs.{needs}

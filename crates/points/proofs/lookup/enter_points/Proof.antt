@@ -1,9 +1,8 @@
 -- `points::lookup::enter_points` meets its contract: what is entered, under what is still to come, is the file's lookup. Assumes nothing.
-use Prim.Native.Nat.{ℕ, _+_, _*_, _-_, _≤_, _<_}
-use mathlib.Core.Path.{_≡_, refl, sym, ap, _∙_}
+use Prim.Native.Nat.{_+_, _*_, _-_, _≤_}
+use mathlib.Core.Path.{_≡_, refl}
 use native.Mathlib.Omega.{arith}
-use lib.ListN.{length, getD, length-set}
-use Rattle.rym1.proofs.Cells.{cube-few}
+use lib.ListN.{length, length-set}
 use Rattle.points.proofs.Words.{Entering, enter-start, enter-turn, enter-end, point-there, point-inside}
 use borrow.Author.Needs.{needs}
 use Rattle.points.proofs.lookup.enter_points.Statement.{statement}

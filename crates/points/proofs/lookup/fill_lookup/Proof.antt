@@ -1,7 +1,6 @@
 -- `points::lookup::fill_lookup` meets its contract: words of 0, and every record entered. Assumes nothing.
 use Prim.Native.Nat.{_≤_}
-use mathlib.Core.Path.{_≡_, refl, sym, ap, _∙_}
-use native.Mathlib.Omega.{arith}
+use mathlib.Core.Path.{ap, _∙_}
 use lib.ListN.{length}
 use Rattle.rym1.specs.File.{cube, grid}
 use Rattle.rym1.proofs.Accepted.{accepted}
