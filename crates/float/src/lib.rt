@@ -1,5 +1,6 @@
 // The float leaves, all worked out from the bits: narrowing, finite tests, reads of patterns, and the index of a scaled coordinate.
 pub mod axis;
+pub mod number;
 pub mod pattern;
 
 ghost use mathlib.Core.Path.{_≡_};

@@ -1,0 +1,15 @@
+// The magnitude of a number, and the greater of two (scalar_max of mesh_pipeline.rs).
+ghost use mathlib.Core.Path.{_≡_};
+ghost use Rattle.float.specs.Number.{abs, scalarMax};
+
+pub fn abs(x: f64) -> f64
+    ensures { λ r. ⌜ r ≡ abs x ⌝ }
+{
+    if x < 0.0 { -x } else { x }
+}
+
+pub fn scalar_max(a: f64, b: f64) -> f64
+    ensures { λ r. ⌜ r ≡ scalarMax a b ⌝ }
+{
+    if a < b { b } else { a }
+}

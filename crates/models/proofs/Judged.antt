@@ -1,0 +1,44 @@
+-- One result about the definitions: every row of the table of starred models holds.
+use Prim.Native.Nat.{ℕ, _+_}
+use mathlib.Core.Bool.{Bool, true, false, _&&_}
+use mathlib.Core.List.{List, [], _∷_, _++_}
+use lib.Dec.{T, eqb}
+use lib.ListN.{length, replicate}
+use lib.Ieee.{ofBits, toBits, ofInt, lt, neg, add, sub, mul, div}
+use lib.Ieee.Scale as ieee
+use Rattle.float.specs.Narrow.{narrow, narrowFinite, narrow64}
+use Rattle.rym1.specs.Bytes.{word, le, splice}
+use Rattle.rym1.specs.Causes.{Outcome, when, first, outcome, refuse}
+use Rattle.rym1.specs.File.{grid, count, density, volume, scale, boxMin, boxMax, pointAt, pointsAt, points, size, cell, cellOf, cube}
+use Rattle.rym1.specs.File.{finite, allFinite, headerFloats, below, placeCause, massCause, pointCause, pointsCause, headerCause, fileCause}
+use Rattle.rym1.specs.Cells.{massesOf, named, later, lookFrom, look}
+use Rattle.rtm1.specs.Boxes.{widest}
+use Rattle.rtm1.specs.Visit.{run, moved, shifted, total}
+use Rattle.rtm1.specs.Tree.{kindOf, grow, nodeCount, order, occupied}
+use Rattle.rtm1.specs.Node.{centre, constantCentre, least, cellSize, centreOn, halfOn, metricOn, metricCom, halfOf, nodeFloats, floatBytes, floatsBytes, link, nodesBytes}
+use Rattle.rtm1.specs.Build.{Output, wordsBytes, treeHeader, treeBytes, treeLength, output, buildCause, build}
+use Rattle.models.specs.Starred.{Row, narrows, builds, table}
+
+unfoldable pub same : List ℕ → List ℕ → Bool
+same [] [] = true
+same [] (y ∷ ys) = false
+same (x ∷ xs) [] = false
+same (x ∷ xs) (y ∷ ys) = eqb x y && same xs ys
+
+-- the answer, both counts, and the output whole
+unfoldable pub gives : Outcome Output → ℕ → ℕ → ℕ → List ℕ → Bool
+gives r n nodes order out = eqb (r .answer) n && (eqb (r .left .nodes) nodes && (eqb (r .left .order) order && same (r .left .out) out))
+
+-- the tree is built into an output with 3 bytes to spare
+unfoldable pub holds : Row → Bool
+holds (narrows b n) = eqb (narrow64 b) n
+holds (builds f words n nodes order t) =
+    gives (build (wordsBytes f) words (replicate (length (wordsBytes t) + 3) 170)) n nodes order (wordsBytes t ++ replicate 3 170)
+
+unfoldable pub all : List Row → Bool
+all [] = true
+all (r ∷ rs) = holds r && all rs
+
+pub starred : T (all table)
+unfolding table same gives holds all narrow narrowFinite word le splice when first outcome refuse grid count density volume scale boxMin boxMax pointAt pointsAt points size cell cellOf cube finite allFinite headerFloats below placeCause massCause pointCause pointsCause headerCause fileCause massesOf named later lookFrom look widest run moved shifted total kindOf grow nodeCount order occupied centre constantCentre least cellSize centreOn halfOn metricOn metricCom halfOf nodeFloats floatBytes floatsBytes link nodesBytes wordsBytes treeHeader treeBytes treeLength output buildCause build ofBits toBits ofInt lt neg add sub mul div
+starred = tt

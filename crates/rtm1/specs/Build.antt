@@ -1,0 +1,80 @@
+-- The tree file RTM1, and what build answers and leaves in its output. Definitions only.
+use Prim.Native.Nat.{ℕ, _+_, _*_}
+use mathlib.Core.List.{List, [], _∷_, _++_}
+use lib.ListN.{length}
+use lib.Dec.{ltb}
+use Rattle.rym1.specs.Bytes.{le32, splice}
+use Rattle.rym1.specs.Causes.{number, when, first, Outcome, outcome, refuse}
+use Rattle.rym1.specs.File.{grid, count, density, volume, scale, boxMin, boxMax, cube, fileCause}
+use Rattle.rym1.specs.Cells.{look}
+use Rattle.rtm1.specs.declared.Built.{Built}
+use Rattle.rtm1.specs.declared.Built.the-variants.{Refused, Done}
+use Rattle.rtm1.specs.Tree.{Tree, tree, nodeCount, order}
+use Rattle.rtm1.specs.Node.{nodesBytes}
+
+unfoldable pub wordsBytes : List ℕ → List ℕ
+wordsBytes [] = []
+wordsBytes (w ∷ ws) = le32 w ++ wordsBytes ws
+
+-- f: a point file, of which the header alone is read. Its floats keep their bits; scale, density and volume stand in this order here.
+unfoldable pub treeHeader : List ℕ → Tree → List ℕ
+treeHeader f t =
+    wordsBytes
+    (0x314d5452
+    ∷ 2
+    ∷ grid f
+    ∷ count f
+    ∷ scale f
+    ∷ density f
+    ∷ volume f
+    ∷ 0
+    ∷ boxMin f 0
+    ∷ boxMin f 1
+    ∷ boxMin f 2
+    ∷ boxMax f 0
+    ∷ boxMax f 1
+    ∷ boxMax f 2
+    ∷ nodeCount t
+    ∷ 0
+    ∷ [])
+
+-- header, nodes in preorder, order words
+unfoldable pub treeBytes : List ℕ → Tree → List ℕ
+treeBytes f t = treeHeader f t ++ (nodesBytes f t 0 0 ++ wordsBytes (order t))
+
+unfoldable pub treeLength : Tree → ℕ
+treeLength t = 64 + 80 * nodeCount t + 4 * length (order t)
+
+-- the tree of a point file
+abbrev pub fileTree : List ℕ → Tree
+fileTree f = tree (look f) (grid f)
+
+-- ---- the call
+
+-- besides its answer: node and order count, 0 at a refusal, and the output buffer afterwards
+pub record Output : Type 0 where
+  pub nodes : ℕ
+  pub order : ℕ
+  pub out : List ℕ
+
+unfoldable pub output : ℕ → ℕ → List ℕ → Output
+output n k s = record { nodes = n; order = k; out = s }
+
+-- 1 to 7; 8, fewer than g³ words of scratch; 9, no room for the tree
+unfoldable pub buildCause : List ℕ → ℕ → List ℕ → ℕ
+buildCause f words out =
+    first (fileCause f)
+    (first (when (ltb words (cube (grid f))) 8)
+    (when (ltb (length out) (treeLength (fileTree f))) 9))
+
+-- f: the point file; words: how many words of scratch; out: the output at entry
+unfoldable pub build : List ℕ → ℕ → List ℕ → Outcome Output
+build f words out =
+    refuse (buildCause f words out) (output 0 0 out)
+    (outcome (treeLength (fileTree f))
+    (output (nodeCount (fileTree f)) (length (order (fileTree f))) (splice out 0 (treeBytes f (fileTree f)))))
+
+-- an answer of the code, and the output that it leaves, as an outcome
+unfoldable pub told : Built → List ℕ → Outcome Output
+told (Refused c) out = outcome (number c) (output 0 0 out)
+told (Done c) out = outcome (c .length) (output (c .nodes) (c .order) out)

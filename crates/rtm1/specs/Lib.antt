@@ -1,0 +1,5 @@
+pub mod Boxes
+pub mod Visit
+pub mod Tree
+pub mod Node
+pub mod Build
