@@ -22,6 +22,20 @@ uint64_t mascon_narrow(double x);
 uint64_t mascon_open(const uint8_t *file, size_t file_length, uint32_t *scratch, size_t scratch_length,
                      uint8_t *out, size_t out_length, uint32_t *journal, size_t journal_length);
 
+/* What build answers: the length written or a refusal's cause, then how many nodes and order words the tree has, 0 at a refusal. */
+typedef struct {
+    uint64_t answer, nodes, order;
+} MasconBuilt;
+
+/* Builds the tree of a point file, in working form or not, into out: 64 bytes of header, 80 a node, 4 an occupied cell.
+   Answers the length written, 64 + 80 * nodes + 4 * order, or a number below 64, the cause of a refusal:
+   1 under 64 bytes, 2 word 0 or version, 3 grid, 4 records missing, 5 a header float, 6 a coordinate, 7 a mass,
+   8 scratch under grid^3 words, 9 out too short. 64 + 80 * (2 * grid^3 - 1) + 4 * grid^3 bytes are always enough.
+   A refusal changes no byte of out, and none of scratch where it is 1 to 8. out past the length is as it was; file is only read;
+   scratch is free otherwise. The three do not overlap. */
+MasconBuilt mascon_build(const uint8_t *file, size_t file_length, uint32_t *scratch, size_t scratch_length,
+                         uint8_t *out, size_t out_length);
+
 #ifdef __cplusplus
 }
 #endif

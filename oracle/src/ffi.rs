@@ -14,6 +14,34 @@ unsafe extern "C" {
         journal: *mut u32,
         journal_len: usize,
     ) -> u64;
+
+    fn mascon_build(
+        file: *const u8,
+        file_len: usize,
+        scratch: *mut u32,
+        scratch_len: usize,
+        out: *mut u8,
+        out_len: usize,
+    ) -> Built;
+}
+
+/// What build answers: the length written, or the number of a cause; node and order counts, both 0 in a refusal.
+#[repr(C)]
+#[derive(Clone, Copy, Debug, PartialEq, Eq)]
+pub(crate) struct Built {
+    pub(crate) answer: u64,
+    pub(crate) nodes: u64,
+    pub(crate) order: u64,
+}
+
+impl Built {
+    pub(crate) fn refused(cause: u64) -> Self {
+        Self {
+            answer: cause,
+            nodes: 0,
+            order: 0,
+        }
+    }
 }
 
 /// The binary32 pattern of the binary64 number that `pattern` stands for.
@@ -35,6 +63,21 @@ pub(crate) fn open(file: &[u8], scratch: &mut [u32], out: &mut [u8], journal: &m
             out.len(),
             journal.as_mut_ptr(),
             journal.len(),
+        )
+    }
+}
+
+/// Builds the tree of a point file.
+pub(crate) fn build(file: &[u8], scratch: &mut [u32], out: &mut [u8]) -> Built {
+    // SAFETY: as in `open`; the struct is laid out as in C.
+    unsafe {
+        mascon_build(
+            file.as_ptr(),
+            file.len(),
+            scratch.as_mut_ptr(),
+            scratch.len(),
+            out.as_mut_ptr(),
+            out.len(),
         )
     }
 }

@@ -3,6 +3,7 @@
 #![deny(unsafe_code)]
 
 mod bench;
+mod build;
 #[allow(unsafe_code)]
 mod ffi;
 mod lent;
@@ -15,28 +16,35 @@ mod points;
 mod report;
 mod rng;
 mod rule;
+mod search;
 mod store;
+mod treeinfo;
 
 use report::Report;
 use std::env;
 use std::path::Path;
 use std::process::ExitCode;
 
-const USAGE: &str = "usage: oracle check [all|narrow|open|stored|original]
-       oracle store narrow|open FILE
-       oracle verify-stored [narrow|open] FILE
-       oracle bench open";
+const USAGE: &str = "usage: oracle check [all|narrow|open|build|stored|treeinfo|original]
+       oracle store narrow|open|build FILE
+       oracle verify-stored [narrow|open|build] FILE
+       oracle bench open|build";
+
+const CHECKS: [&str; 7] = [
+    "all", "narrow", "open", "build", "stored", "treeinfo", "original",
+];
 
 fn main() -> ExitCode {
     let words: Vec<String> = env::args().skip(1).collect();
     let words: Vec<&str> = words.iter().map(String::as_str).collect();
     match words[..] {
         ["check"] => check("all"),
-        ["check", what @ ("all" | "narrow" | "open" | "stored" | "original")] => check(what),
+        ["check", what] if CHECKS.contains(&what) => check(what),
         ["store", kind, file] => told(store::store(kind, Path::new(file))),
         ["verify-stored", file] => told(store::verify(stem(file), Path::new(file))),
         ["verify-stored", kind, file] => told(store::verify(kind, Path::new(file))),
         ["bench", "open"] => told(bench::open()),
+        ["bench", "build"] => told(bench::build::build()),
         _ => {
             eprintln!("{USAGE}");
             ExitCode::from(2)
@@ -77,8 +85,14 @@ fn check(what: &str) -> ExitCode {
     if wanted("open") {
         open::check(&mut report);
     }
+    if wanted("build") {
+        build::check(&mut report);
+    }
     if wanted("stored") {
         store::check(&mut report);
+    }
+    if wanted("treeinfo") {
+        treeinfo::check(&mut report);
     }
     #[cfg(original)]
     if wanted("original") {

@@ -1,6 +1,6 @@
 //! The original itself on models whose answers are known: it is compiled and reached as it should be.
 
-use crate::ffi;
+use crate::ffi::{self, Built};
 use crate::original::{self, shim};
 use crate::points::{point_file, Header, Record};
 use crate::report::{Found, Report};
@@ -71,9 +71,23 @@ fn float_at(bytes: &[u8], at: usize) -> f32 {
     f32::from_bits(word_at(bytes, at))
 }
 
-/// The tree, after a look at its length and its counts.
+/// The library's answer to a file of a small grid, and the tree that it writes.
+fn built(file: &[u8]) -> (Built, Vec<u8>) {
+    let mut out = vec![0; 1024];
+    let built = ffi::build(file, &mut [0; 64], &mut out);
+    out.truncate(built.answer as usize);
+    (built, out)
+}
+
+/// The tree, after a look at its length and its counts; the library's is the same.
 fn tree(file: &[u8], bytes: usize, nodes: usize, order: &[u32]) -> Result<Vec<u8>, String> {
     let (tree, node_count, order_count) = shim::build_mascon_tree(file)?;
+    let want = Built {
+        answer: bytes as u64,
+        nodes: nodes as u64,
+        order: order.len() as u64,
+    };
+    same("the library's", built(file), (want, tree.clone()))?;
     same("bytes", tree.len(), bytes)?;
     same("nodes", node_count, nodes)?;
     same("order count", order_count, order.len())?;
@@ -145,8 +159,9 @@ fn corner_of_grid_4() -> Result<(), String> {
 
 /// Where the original is laxer than the library: (192, 5, 0) lands in the slot of (0, 6, 0).
 fn shared_slot() -> Result<(), String> {
-    let (tree, _, order) =
-        shim::build_mascon_tree(&point_file(Header::cube(192, 192.0), &[record(192, 5, 0)]))?;
+    let file = point_file(Header::cube(192, 192.0), &[record(192, 5, 0)]);
+    same("refused", refused(&file), [6, 6])?;
+    let (tree, _, order) = shim::build_mascon_tree(&file)?;
     same("order count", order, 1)?;
     same(
         "centre of mass",
@@ -155,9 +170,10 @@ fn shared_slot() -> Result<(), String> {
     )
 }
 
-/// The library's answer to a file, with room for all it could want at a small grid.
-fn opened(file: &[u8]) -> u64 {
-    ffi::open(file, &mut [0; 8], &mut [0; 256], &mut [0; 1])
+/// The library's answers to a file, of open and of build, with room for all they could want at a small grid.
+fn refused(file: &[u8]) -> [u64; 2] {
+    let opened = ffi::open(file, &mut [0; 8], &mut [0; 256], &mut [0; 1]);
+    [opened, built(file).0.answer]
 }
 
 /// Whether a call panics; what it would print is left out.
@@ -169,7 +185,7 @@ fn panics(call: impl FnOnce() -> bool + std::panic::UnwindSafe) -> bool {
     caught
 }
 
-/// Each input of docs/DIFFERENCES.md: the original takes it, and the library gives the cause named there.
+/// Each input of docs/DIFFERENCES.md: the original takes it, and the library gives the cause named there, in open and in build.
 fn laxer() -> Result<(), String> {
     let cube = Header::cube(2, 2.0);
     let endless = Header {
@@ -189,12 +205,18 @@ fn laxer() -> Result<(), String> {
     ];
     for (name, file, cause) in cases {
         shim::build_mascon_tree(&file)?;
-        same(name, opened(&file), cause)?;
+        same(name, refused(&file), [cause; 2])?;
     }
     let outside = point_file(cube, &[record(0, 0, 2)]);
     let panicked = panics(|| shim::build_mascon_tree(&outside).is_ok());
     same("a coordinate past the last slot panics", panicked, true)?;
-    same("a coordinate past the last slot", opened(&outside), 6)
+    same("a coordinate past the last slot", refused(&outside), [6; 2])?;
+    let one_cell = point_file(Header::cube(1, 2.0), &[]);
+    same(
+        "no scratch",
+        ffi::build(&one_cell, &mut [], &mut []),
+        Built::refused(8),
+    )
 }
 
 fn ray() -> Result<(), String> {

@@ -5,17 +5,14 @@ pub(crate) mod cases;
 use crate::ffi;
 use crate::lent::{mixed, Lent};
 use crate::points::{point_file, Header, Record};
-use crate::report::{Found, Report};
+use crate::report::Report;
 use crate::rng::Rng;
 use crate::rule;
+use crate::search::{first, shared, Search};
 use cases::{Case, Kind, KINDS};
-use std::fmt::LowerHex;
-use std::thread;
 
 /// An implementation of open.
 pub(crate) type Open = fn(&[u8], &mut [u32], &mut [u8], &mut [u32]) -> u64;
-
-const THREADS: u64 = 2;
 
 /// One call's buffers, and what they shall hold afterwards.
 struct Desk {
@@ -28,7 +25,7 @@ struct Desk {
 }
 
 /// A word of scratch before the call: anything, all zeros, all ones, or numbers that could be a record's.
-fn scratch_word(junk: u32, at: usize) -> u32 {
+pub(crate) fn scratch_word(junk: u32, at: usize) -> u32 {
     match junk & 3 {
         0 => 0,
         1 => u32::MAX,
@@ -129,57 +126,6 @@ impl Desk {
     }
 }
 
-/// The first place at which two buffers differ.
-fn first<T: PartialEq + LowerHex>(what: &str, got: &[T], want: &[T]) -> Option<String> {
-    let at = got.iter().zip(want).position(|(a, b)| a != b)?;
-    Some(format!(
-        "{what} {at} is {:#x}, not {:#x}",
-        got[at], want[at]
-    ))
-}
-
-/// The mismatches seen so far, and the least of them by the bytes lent, then by its number.
-#[derive(Default)]
-struct Search {
-    cases: u64,
-    mismatches: u64,
-    least: Option<(usize, u64, String)>,
-}
-
-impl Search {
-    fn visit(&mut self, desk: &mut Desk, open: Open, name: &str, number: u64, case: &Case) {
-        self.cases += 1;
-        let Some(what) = desk.differs(open, case) else {
-            return;
-        };
-        self.mismatches += 1;
-        let size = case.file.len() + 4 * case.scratch + case.out + 4 * case.journal;
-        let what = format!("{name}, case {number}: {}: {what}", described(case));
-        self.least = self
-            .least
-            .take()
-            .into_iter()
-            .chain([(size, number, what)])
-            .min();
-    }
-
-    fn and(self, other: Self) -> Self {
-        Self {
-            cases: self.cases + other.cases,
-            mismatches: self.mismatches + other.mismatches,
-            least: self.least.into_iter().chain(other.least).min(),
-        }
-    }
-
-    fn found(self) -> Found {
-        Found {
-            cases: self.cases,
-            mismatches: self.mismatches,
-            smallest: self.least.map(|(_, _, what)| what),
-        }
-    }
-}
-
 fn described(case: &Case) -> String {
     format!(
         "g {}, {} records, file {}, scratch {}, output {}, journal {}",
@@ -192,23 +138,23 @@ fn described(case: &Case) -> String {
     )
 }
 
+/// Makes the call of a case and notes what it finds.
+fn visit(search: &mut Search, desk: &mut Desk, open: Open, name: &str, number: u64, case: &Case) {
+    let size = case.file.len() + 4 * case.scratch + case.out + 4 * case.journal;
+    let wrong = desk.differs(open, case);
+    let told = wrong.map(|what| format!("{name}, case {number}: {}: {what}", described(case)));
+    search.note(size, number, told);
+}
+
 /// Compares the cases of a kind, the work shared out by their numbers.
 fn compare(open: Open, seed: u64, kind: &Kind, cases: u64) -> Search {
-    let share = |start: u64| {
+    shared(cases, |numbers| {
         let (mut desk, mut search) = (Desk::new(), Search::default());
-        for number in (start..cases).step_by(THREADS as usize) {
-            search.visit(&mut desk, open, kind.name, number, &kind.case(seed, number));
+        for number in numbers {
+            let case = kind.case(seed, number);
+            visit(&mut search, &mut desk, open, kind.name, number, &case);
         }
         search
-    };
-    thread::scope(|scope| {
-        let shares: Vec<_> = (0..THREADS)
-            .map(|start| scope.spawn(move || share(start)))
-            .collect();
-        let searches = shares
-            .into_iter()
-            .map(|share| share.join().expect("no panic"));
-        searches.fold(Search::default(), Search::and)
     })
 }
 
@@ -252,7 +198,7 @@ fn fixed() -> [(&'static str, Case, Option<u64>); 5] {
 fn compare_fixed(open: Open) -> Search {
     let (mut desk, mut search) = (Desk::new(), Search::default());
     for (number, (name, case, answer)) in (0..).zip(fixed()) {
-        search.visit(&mut desk, open, name, number, &case);
+        visit(&mut search, &mut desk, open, name, number, &case);
         let (mut out, mut journal) = (vec![0; case.out], vec![0; case.journal]);
         let told = rule::open(&case.file, case.scratch as u64, &mut out, &mut journal);
         if answer.is_some_and(|answer| answer != told) {

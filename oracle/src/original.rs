@@ -2,11 +2,31 @@
 //!
 //! `shim` has its functions at its own grid size, 192; `build_mascon` picks a copy by the grid size.
 
+use crate::ffi::Built;
+
 /// Whether the original's files were there when this was built.
 pub(crate) const AT_HAND: bool = cfg!(original);
 
 #[cfg(original)]
 include!(concat!(env!("OUT_DIR"), "/originals.rs"));
+
+/// The original's tree of a point file that the rule lets pass, its length in `answer`, with its counts.
+#[cfg(original)]
+pub(crate) fn tree(file: &[u8]) -> Option<(Vec<u8>, Built)> {
+    let (tree, nodes, order) = shim::build_mascon_tree(file).expect("a file that has its records");
+    let built = Built {
+        answer: tree.len() as u64,
+        nodes: nodes as u64,
+        order: order as u64,
+    };
+    Some((tree, built))
+}
+
+/// Nothing: the original is not at hand.
+#[cfg(not(original))]
+pub(crate) fn tree(_: &[u8]) -> Option<(Vec<u8>, Built)> {
+    None
+}
 
 #[cfg(all(test, original))]
 mod tests {

@@ -1,8 +1,9 @@
 //! Stored answers of Rust, for a program that has no Rust beside it.
 //!
 //! `narrow.bin`: for each case 8 bytes of binary64 pattern and 4 bytes of the binary32 pattern
-//! that Rust gives, little endian; a NaN gives 0x7fc00000. `open.bin`: see `store/open.rs`.
+//! that Rust gives, little endian; a NaN gives 0x7fc00000. `open.bin`: see `store/open.rs`. `build.bin`: see `store/build.rs`.
 
+mod build;
 mod open;
 
 use crate::narrow;
@@ -91,6 +92,7 @@ fn bytes_of(kind: &str) -> Result<Vec<u8>, String> {
     match kind {
         "narrow" => Ok(narrow_bytes()),
         "open" => Ok(open::bytes()),
+        "build" => Ok(build::bytes()),
         _ => Err(format!("no stored answers of the kind {kind:?}")),
     }
 }
@@ -130,6 +132,7 @@ pub(crate) fn verify(kind: &str, file: &Path) -> Result<String, String> {
 pub(crate) fn check(report: &mut Report) {
     check_file(report, "narrow.bin", replay_narrow);
     check_file(report, "open.bin", open::replay);
+    check_file(report, "build.bin", build::replay);
 }
 
 fn check_file(report: &mut Report, name: &str, replay: fn(&[u8]) -> Found) {
@@ -182,6 +185,7 @@ mod tests {
     fn stored_files_are_made_anew() {
         verify("narrow", &folder().join("narrow.bin")).unwrap();
         verify("open", &folder().join("open.bin")).unwrap();
+        verify("build", &folder().join("build.bin")).unwrap();
     }
 
     /// Every kind of case is well represented.

@@ -8,7 +8,10 @@ ghost use lib.Ieee.{binary64, toBits};
 ghost use Rattle.float.specs.Narrow.{narrow64};
 ghost use Rattle.rym1.specs.Causes.{outcome};
 ghost use Rattle.rym1.specs.Open.{both, openFile};
+ghost use Rattle.rtm1.specs.Build.{output, build};
+use number::MasconBuilt;
 use number::answer_number;
+use number::built_numbers;
 
 // The pattern of the binary32 nearest to x, ties to even; a NaN gives 0x7fc00000.
 #[no_mangle]
@@ -31,4 +34,14 @@ pub extern "C" fn mascon_open(
         × (r ≤ 8 → now (scratch .exit) ≡ now (scratch .entry)) ⌝ }
 {
     answer_number(points::open(file, scratch, out, journal))
+}
+
+// The tree of a point file into `out`.
+#[no_mangle]
+pub extern "C" fn mascon_build(file: &[u8], scratch: &mut [u32], out: &mut [u8]) -> MasconBuilt
+    ensures { λ r. ⌜ (outcome (r .answer) (output (r .nodes) (r .order) (now (out .exit)))
+        ≡ build (now (file .entry)) (length (now (scratch .entry))) (now (out .entry)))
+        × (r .answer ≤ 8 → now (scratch .exit) ≡ now (scratch .entry)) ⌝ }
+{
+    built_numbers(mascon_tree::build_mascon_tree(file, scratch, out))
 }

@@ -1,6 +1,8 @@
 // 01's numbers, as they pass the boundary.
 ghost use mathlib.Core.Path.{_≡_};
 ghost use Rattle.rym1.specs.Causes.{number, told};
+ghost use Rattle.rtm1.specs.Build.{answerOf, nodesOf, orderOf};
+use rtm1::Built;
 use rym1::Answer;
 use rym1::Cause;
 
@@ -34,5 +36,30 @@ pub fn answer_number(answer: Answer) -> u64
     match answer {
         Answer::Refused(cause) => cause_number(cause),
         Answer::Length(length) => length,
+    }
+}
+
+// What build answers, as it passes the boundary: the length or a refusal's number, then node and order count, 0 at a refusal.
+#[repr(C)]
+pub struct MasconBuilt {
+    pub answer: u64,
+    pub nodes: u64,
+    pub order: u64,
+}
+
+pub fn built_numbers(built: Built) -> MasconBuilt
+    ensures { λ r. ⌜ r ≡ record { answer = answerOf built; nodes = nodesOf built; order = orderOf built } ⌝ }
+{
+    match built {
+        Built::Refused(cause) => MasconBuilt {
+            answer: cause_number(cause),
+            nodes: 0,
+            order: 0,
+        },
+        Built::Done(counts) => MasconBuilt {
+            answer: counts.length,
+            nodes: counts.nodes,
+            order: counts.order,
+        },
     }
 }

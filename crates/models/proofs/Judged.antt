@@ -15,8 +15,8 @@ use Rattle.rym1.specs.Cells.{massesOf, named, later, lookFrom, look}
 use Rattle.rtm1.specs.Boxes.{widest}
 use Rattle.rtm1.specs.Visit.{run, moved, shifted, total}
 use Rattle.rtm1.specs.Tree.{kindOf, grow, nodeCount, order, occupied}
-use Rattle.rtm1.specs.Node.{centre, constantCentre, least, cellSize, centreOn, halfOn, metricOn, metricCom, halfOf, nodeFloats, floatBytes, floatsBytes, link, nodesBytes}
-use Rattle.rtm1.specs.Build.{Output, wordsBytes, treeHeader, treeBytes, treeLength, output, buildCause, build}
+use Rattle.rtm1.specs.Node.{centre, constantCentre, least, cellSize, centreOn, centreOf, halfOn, halfOf, metricOn, metricCom, nodeFloats, floatBytes, floatsBytes, nodesBytes}
+use Rattle.rtm1.specs.Build.{Output, wordsBytes, headerWords, treeBytes, treeLength, output, buildCause, build}
 use Rattle.models.specs.Starred.{Row, narrows, builds, table}
 
 unfoldable pub same : List ℕ → List ℕ → Bool
@@ -40,5 +40,5 @@ all [] = true
 all (r ∷ rs) = holds r && all rs
 
 pub starred : T (all table)
-unfolding table same gives holds all narrow narrowFinite word le splice when first outcome refuse grid count density volume scale boxMin boxMax pointAt pointsAt points size cell cellOf cube finite allFinite headerFloats below placeCause massCause pointCause pointsCause headerCause fileCause massesOf named later lookFrom look widest run moved shifted total kindOf grow nodeCount order occupied centre constantCentre least cellSize centreOn halfOn metricOn metricCom halfOf nodeFloats floatBytes floatsBytes link nodesBytes wordsBytes treeHeader treeBytes treeLength output buildCause build ofBits toBits ofInt lt neg add sub mul div
+unfolding table same gives holds all narrow narrowFinite word le splice when first outcome refuse grid count density volume scale boxMin boxMax pointAt pointsAt points size cell cellOf cube finite allFinite headerFloats below placeCause massCause pointCause pointsCause headerCause fileCause massesOf named later lookFrom look widest run moved shifted total kindOf grow nodeCount order occupied centre constantCentre least cellSize centreOn centreOf halfOn halfOf metricOn metricCom nodeFloats floatBytes floatsBytes nodesBytes wordsBytes headerWords treeBytes treeLength output buildCause build ofBits toBits ofInt lt neg add sub mul div
 starred = tt

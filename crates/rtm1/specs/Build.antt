@@ -10,17 +10,16 @@ use Rattle.rym1.specs.Cells.{look}
 use Rattle.rtm1.specs.declared.Built.{Built}
 use Rattle.rtm1.specs.declared.Built.the-variants.{Refused, Done}
 use Rattle.rtm1.specs.Tree.{Tree, tree, nodeCount, order}
-use Rattle.rtm1.specs.Node.{nodesBytes}
+use Rattle.rtm1.specs.Node.{frameOf, nodesBytes}
 
 unfoldable pub wordsBytes : List ℕ → List ℕ
 wordsBytes [] = []
 wordsBytes (w ∷ ws) = le32 w ++ wordsBytes ws
 
--- f: a point file, of which the header alone is read. Its floats keep their bits; scale, density and volume stand in this order here.
-unfoldable pub treeHeader : List ℕ → Tree → List ℕ
-treeHeader f t =
-    wordsBytes
-    (0x314d5452
+-- f: a point file, of which the header alone is read; n: the node count. Floats keep their bits; scale, density and volume stand in this order here.
+unfoldable pub headerWords : List ℕ → ℕ → List ℕ
+headerWords f n =
+    0x314d5452
     ∷ 2
     ∷ grid f
     ∷ count f
@@ -34,13 +33,13 @@ treeHeader f t =
     ∷ boxMax f 0
     ∷ boxMax f 1
     ∷ boxMax f 2
-    ∷ nodeCount t
+    ∷ n
     ∷ 0
-    ∷ [])
+    ∷ []
 
 -- header, nodes in preorder, order words
 unfoldable pub treeBytes : List ℕ → Tree → List ℕ
-treeBytes f t = treeHeader f t ++ (nodesBytes f t 0 0 ++ wordsBytes (order t))
+treeBytes f t = wordsBytes (headerWords f (nodeCount t)) ++ (nodesBytes (frameOf f) t 0 0 ++ wordsBytes (order t))
 
 unfoldable pub treeLength : Tree → ℕ
 treeLength t = 64 + 80 * nodeCount t + 4 * length (order t)
@@ -74,7 +73,20 @@ build f words out =
     (outcome (treeLength (fileTree f))
     (output (nodeCount (fileTree f)) (length (order (fileTree f))) (splice out 0 (treeBytes f (fileTree f)))))
 
--- an answer of the code, and the output that it leaves, as an outcome
+-- ---- what the code answers
+
+unfoldable pub answerOf : Built → ℕ
+answerOf (Refused c) = number c
+answerOf (Done c) = c .length
+
+unfoldable pub nodesOf : Built → ℕ
+nodesOf (Refused c) = 0
+nodesOf (Done c) = c .nodes
+
+unfoldable pub orderOf : Built → ℕ
+orderOf (Refused c) = 0
+orderOf (Done c) = c .order
+
+-- an answer, and the output that is left with it, as an outcome
 unfoldable pub told : Built → List ℕ → Outcome Output
-told (Refused c) out = outcome (number c) (output 0 0 out)
-told (Done c) out = outcome (c .length) (output (c .nodes) (c .order) out)
+told r out = outcome (answerOf r) (output (nodesOf r) (orderOf r) out)

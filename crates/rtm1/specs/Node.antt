@@ -1,7 +1,6 @@
 -- A node's record: twenty floats, in metres where they are lengths. Definitions only.
--- f is a point file of which the header alone is read. An axis is 0 for x, 1 for y, 2 for z.
 use Prim.Native.Nat.{ℕ, zero, suc, _+_, _-_}
-use mathlib.Core.Bool.{cond}
+use mathlib.Core.Bool.{Bool, cond}
 use mathlib.Core.List.{List, [], _∷_, _++_}
 use lib.ListN.{length, getD}
 use lib.Ieee.{Float, binary32, binary64, nan, add, sub, mul, div, lt, ofBits, toBits}
@@ -10,6 +9,7 @@ use Rattle.float.specs.Number.{abs, scalarMax}
 use Rattle.rym1.specs.Bytes.{le32}
 use Rattle.rym1.specs.File.{grid, boxMin, boxMax}
 use Rattle.rtm1.specs.declared.Cells.{Cells}
+use Rattle.rtm1.specs.declared.Frame.{Frame}
 use Rattle.rtm1.specs.declared.Sums.{Sums}
 use Rattle.rtm1.specs.Visit.{num, zero3, nothing}
 use Rattle.rtm1.specs.Tree.{Tree, empty, leaf, split, nodeCount, order, occupied}
@@ -50,42 +50,62 @@ constantCentre (suc n) m = over m (num (suc n))
 
 -- ---- metres
 
+-- a point file's min along an axis, and (max − min) ÷ g
 unfoldable pub least : List ℕ → ℕ → Float
 least f axis = ofBits binary32 (boxMin f axis)
 
--- (max − min) ÷ g
 unfoldable pub cellSize : List ℕ → ℕ → Float
 cellSize f axis = div binary64 (sub binary64 (ofBits binary32 (boxMax f axis)) (least f axis)) (num (grid f))
 
+abbrev pub frameOf : List ℕ → Frame
+frameOf f =
+    record {
+      min = least f 0 ∷ least f 1 ∷ least f 2 ∷ [];
+      cell = cellSize f 0 ∷ cellSize f 1 ∷ cellSize f 2 ∷ [];
+    }
+
 -- min + (low + high)·0.5·cell
-unfoldable pub centreOn : List ℕ → ℕ → ℕ → ℕ → Float
-centreOn f axis low high = add binary64 (least f axis) (mul binary64 (mul binary64 (num (low + high)) half) (cellSize f axis))
+unfoldable pub centreOn : Float → Float → ℕ → ℕ → Float
+centreOn min cell low high = add binary64 min (mul binary64 (mul binary64 (num (low + high)) half) cell)
+
+unfoldable pub centreOf : Frame → Cells → List Float
+centreOf r b =
+    centreOn (getD (r .min) 0 nan) (getD (r .cell) 0 nan) (b .x0) (b .x1)
+    ∷ centreOn (getD (r .min) 1 nan) (getD (r .cell) 1 nan) (b .y0) (b .y1)
+    ∷ centreOn (getD (r .min) 2 nan) (getD (r .cell) 2 nan) (b .z0) (b .z1)
+    ∷ []
 
 -- (high − low)·0.5·cell
-unfoldable pub halfOn : List ℕ → ℕ → ℕ → ℕ → Float
-halfOn f axis low high = mul binary64 (mul binary64 (num (high - low)) half) (cellSize f axis)
+unfoldable pub halfOn : Float → ℕ → ℕ → Float
+halfOn cell low high = mul binary64 (mul binary64 (num (high - low)) half) cell
+
+-- the greatest of them
+unfoldable pub halfOf : Frame → Cells → Float
+halfOf r b =
+    scalarMax
+    (scalarMax (halfOn (getD (r .cell) 0 nan) (b .x0) (b .x1)) (halfOn (getD (r .cell) 1 nan) (b .y0) (b .y1)))
+    (halfOn (getD (r .cell) 2 nan) (b .z0) (b .z1))
 
 -- a centre of mass c: min + (c + 0.5)·cell
-unfoldable pub metricOn : List ℕ → ℕ → Float → Float
-metricOn f axis c = add binary64 (least f axis) (mul binary64 (add binary64 c half) (cellSize f axis))
+unfoldable pub metricOn : Float → Float → Float → Float
+metricOn min cell c = add binary64 min (mul binary64 (add binary64 c half) cell)
 
-unfoldable pub metricCom : List ℕ → List Float → List Float
-metricCom f c = metricOn f 0 (getD c 0 nan) ∷ metricOn f 1 (getD c 1 nan) ∷ metricOn f 2 (getD c 2 nan) ∷ []
-
--- the greatest half width
-unfoldable pub halfOf : List ℕ → Cells → Float
-halfOf f b = scalarMax (scalarMax (halfOn f 0 (b .x0) (b .x1)) (halfOn f 1 (b .y0) (b .y1))) (halfOn f 2 (b .z0) (b .z1))
+unfoldable pub metricCom : Frame → List Float → List Float
+metricCom r c =
+    metricOn (getD (r .min) 0 nan) (getD (r .cell) 0 nan) (getD c 0 nan)
+    ∷ metricOn (getD (r .min) 1 nan) (getD (r .cell) 1 nan) (getD c 1 nan)
+    ∷ metricOn (getD (r .min) 2 nan) (getD (r .cell) 2 nan) (getD c 2 nan)
+    ∷ []
 
 -- ---- the record
 
 -- of a box with its sums, both links, and a leaf's start and count: centre, half, both sums, left, right, Cauchy centre, leaf start, elliptic centre, leaf count, constant centre, count
-unfoldable pub nodeFloats : List ℕ → Cells → Sums → Float → Float → ℕ → ℕ → List Float
-nodeFloats f b s left right start n =
-    (centreOn f 0 (b .x0) (b .x1) ∷ centreOn f 1 (b .y0) (b .y1) ∷ centreOn f 2 (b .z0) (b .z1) ∷ halfOf f b ∷ [])
-    ++ ((s .cauchy ∷ s .elliptic ∷ left ∷ right ∷ [])
-    ++ (metricCom f (centre b (s .count) (s .«cauchy_moment») (s .cauchy)) ++ (num start ∷ [])
-    ++ (metricCom f (centre b (s .count) (s .«elliptic_moment») (s .elliptic)) ++ (num n ∷ [])
-    ++ (metricCom f (constantCentre (s .count) (s .«constant_moment»)) ++ (num (s .count) ∷ [])))))
+unfoldable pub nodeFloats : Frame → Cells → Sums → Float → Float → ℕ → ℕ → List Float
+nodeFloats r b s left right start n =
+    centreOf r b ++ (halfOf r b ∷ s .cauchy ∷ s .elliptic ∷ left ∷ right ∷ [])
+    ++ (metricCom r (centre b (s .count) (s .«cauchy_moment») (s .cauchy)) ++ (num start ∷ [])
+    ++ (metricCom r (centre b (s .count) (s .«elliptic_moment») (s .elliptic)) ++ (num n ∷ [])
+    ++ (metricCom r (constantCentre (s .count) (s .«constant_moment»)) ++ (num (s .count) ∷ []))))
 
 -- a float as it is written: narrowed to binary32
 unfoldable pub floatBytes : Float → List ℕ
@@ -96,13 +116,13 @@ floatsBytes [] = []
 floatsBytes (x ∷ xs) = floatBytes x ++ floatsBytes xs
 
 -- −1 to a child without points, else its place in preorder
-unfoldable pub link : ℕ → Tree → Float
-link place t = cond (occupied t) (num place) minusOne
+abbrev pub link : Bool → ℕ → Float
+link occupied place = cond occupied (num place) minusOne
 
 -- the records in preorder, of a tree whose root has place n, o points being ordered before it
-unfoldable pub nodesBytes : List ℕ → Tree → ℕ → ℕ → List ℕ
-nodesBytes f (empty b) n o = floatsBytes (nodeFloats f b nothing minusOne minusOne 0 0)
-nodesBytes f (leaf b s is) n o = floatsBytes (nodeFloats f b s minusOne minusOne o (length is))
-nodesBytes f (split b s l r) n o =
-    floatsBytes (nodeFloats f b s (link (n + 1) l) (link (n + 1 + nodeCount l) r) 0 0)
-    ++ (nodesBytes f l (n + 1) o ++ nodesBytes f r (n + 1 + nodeCount l) (o + length (order l)))
+unfoldable pub nodesBytes : Frame → Tree → ℕ → ℕ → List ℕ
+nodesBytes r (empty b) n o = floatsBytes (nodeFloats r b nothing minusOne minusOne 0 0)
+nodesBytes r (leaf b s is) n o = floatsBytes (nodeFloats r b s minusOne minusOne o (length is))
+nodesBytes r (split b s lo hi) n o =
+    floatsBytes (nodeFloats r b s (link (occupied lo) (n + 1)) (link (occupied hi) (n + 1 + nodeCount lo)) 0 0)
+    ++ (nodesBytes r lo (n + 1) o ++ nodesBytes r hi (n + 1 + nodeCount lo) (o + length (order lo)))

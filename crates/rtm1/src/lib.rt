@@ -34,6 +34,12 @@ pub struct Sums {
     pub constant_moment: [f64; 3],
 }
 
+// Where the grid lies, per axis, in metres: its least coordinate, and a cell's width.
+pub struct Frame {
+    pub min: [f64; 3],
+    pub cell: [f64; 3],
+}
+
 // What a written tree comes to: its length in bytes, its nodes, its order words.
 pub struct Counts {
     pub length: u64,

@@ -1,4 +1,5 @@
 // Replays stored answers of the Rust oracle and says how many are the same. oracle/README.md says how they were made.
+mod built;
 mod narrowed;
 mod opened;
 mod parts;
@@ -10,4 +11,5 @@ use replay::replay_file;
 fn main() {
     replay_file(b"narrow", b"narrow.bin", Kind::Narrow);
     replay_file(b"open", b"open.bin", Kind::Open);
+    replay_file(b"build", b"build.bin", Kind::Build);
 }

@@ -10,6 +10,13 @@ pub fn bytes() -> [u8; 1024]
     [0xa5; 1024]
 }
 
+// Room for a tree.
+pub fn tree_bytes() -> [u8; 3456]
+    ensures { λ r. ⌜ 3456 ≡ length r ⌝ }
+{
+    [0xa5; 3456]
+}
+
 // The same of words.
 pub fn words() -> [u32; 256]
     ensures { λ r. ⌜ 256 ≡ length r ⌝ }

@@ -1,6 +1,7 @@
 // A file of stored cases, all of one size: read one by one, held to what the library gives, counted and reported.
 // A further kind is a module with its size and its `is_same`, named in `case_size` and `is_same_case` below, and a line of `main`.
 ghost use Prim.Native.Nat.{_≤_};
+use crate::built;
 use crate::narrowed;
 use crate::opened;
 use libc::STDOUT_FILENO;
@@ -8,6 +9,7 @@ use libc::STDOUT_FILENO;
 pub enum Kind {
     Narrow,
     Open,
+    Build,
 }
 
 // How many bytes a case takes.
@@ -17,6 +19,7 @@ fn case_size(kind: Kind) -> usize
     match kind {
         Kind::Narrow => narrowed::SIZE,
         Kind::Open => opened::SIZE,
+        Kind::Build => built::SIZE,
     }
 }
 
@@ -25,6 +28,7 @@ fn is_same_case(kind: Kind, case: &[u8]) -> bool {
     match kind {
         Kind::Narrow => narrowed::is_same(case),
         Kind::Open => opened::is_same(case),
+        Kind::Build => built::is_same(case),
     }
 }
 

@@ -11,10 +11,10 @@ pub(crate) struct Case {
     pub(crate) out: usize,
     pub(crate) journal: usize,
     pub(crate) junk: u32,
-    /// Of the file before any damage: grid size, records, occupied cells.
+    /// Of the file before any damage: grid size, records, the length of what an accepted call writes.
     pub(crate) grid: usize,
     pub(crate) records: usize,
-    occupied: usize,
+    pub(crate) needed: usize,
 }
 
 /// A kind of case: a good one, then damage, told what to be by the case's number.
@@ -22,14 +22,17 @@ pub(crate) struct Kind {
     pub(crate) name: &'static str,
     pub(crate) cases: u64,
     good: fn(&mut Rng) -> Case,
-    damage: fn(&mut Rng, usize, &mut Case),
+    damage: Damage,
 }
 
-const fn kind(
+/// What is done to a good case; the number tells what to do where there are several ways.
+pub(crate) type Damage = fn(&mut Rng, usize, &mut Case);
+
+pub(crate) const fn kind(
     name: &'static str,
     cases: u64,
     good: fn(&mut Rng) -> Case,
-    damage: fn(&mut Rng, usize, &mut Case),
+    damage: Damage,
 ) -> Kind {
     Kind {
         name,
@@ -64,7 +67,7 @@ pub(crate) const KINDS: [Kind; 16] = [
 ];
 
 /// Damage that `several` puts together.
-const DAMAGES: [fn(&mut Rng, usize, &mut Case); 9] = [
+const DAMAGES: [Damage; 9] = [
     not_read,
     header_float,
     header_word,
@@ -89,7 +92,7 @@ const NOT_FINITE: [u32; 8] = [
 ];
 
 /// Float bits at the edges of what is finite: zeros, subnormals, the least normal, one, the greatest.
-const FINITE: [u32; 12] = [
+pub(crate) const FINITE: [u32; 12] = [
     0x0000_0000,
     0x8000_0000,
     0x0000_0001,
@@ -154,17 +157,12 @@ impl Case {
             file,
             grid,
             records,
-            occupied: records,
+            needed: HEADER + RECORD * records,
         }
     }
 
-    /// The length of the opened file.
-    fn needed(&self) -> usize {
-        HEADER + RECORD * self.occupied
-    }
-
     /// The length of the file without what follows its records.
-    fn whole(&self) -> usize {
+    pub(crate) fn whole(&self) -> usize {
         HEADER + RECORD * self.records
     }
 
@@ -191,25 +189,25 @@ impl Case {
     }
 }
 
-fn pick<T: Copy>(rng: &mut Rng, from: &[T]) -> T {
+pub(crate) fn pick<T: Copy>(rng: &mut Rng, from: &[T]) -> T {
     from[rng.below(from.len() as u64) as usize]
 }
 
 /// A number from 0 through `last`.
-fn up_to(rng: &mut Rng, last: usize) -> usize {
+pub(crate) fn up_to(rng: &mut Rng, last: usize) -> usize {
     rng.range(0, last as u64) as usize
 }
 
-fn one_in(rng: &mut Rng, chances: u64) -> bool {
+pub(crate) fn one_in(rng: &mut Rng, chances: u64) -> bool {
     rng.below(chances) == 0
 }
 
-fn word(rng: &mut Rng) -> u32 {
+pub(crate) fn word(rng: &mut Rng) -> u32 {
     rng.bits() as u32
 }
 
 /// A finite float, once in eight one of the edges.
-fn finite(rng: &mut Rng) -> f32 {
+pub(crate) fn finite(rng: &mut Rng) -> f32 {
     let bits = if one_in(rng, 8) {
         pick(rng, &FINITE)
     } else {
@@ -233,7 +231,7 @@ fn axis(rng: &mut Rng) -> (f32, f32) {
     (a.min(b), a.max(b))
 }
 
-fn header(rng: &mut Rng, grid: usize) -> Header {
+pub(crate) fn header(rng: &mut Rng, grid: usize) -> Header {
     let axes = [axis(rng), axis(rng), axis(rng)];
     Header {
         grid: grid as u32,
@@ -258,7 +256,7 @@ fn with_cells(rng: &mut Rng, grid: usize, numbers: &[usize]) -> Case {
     distinct.sort_unstable();
     distinct.dedup();
     let mut case = Case::of(file, grid, numbers.len());
-    case.occupied = distinct.len();
+    case.needed = HEADER + RECORD * distinct.len();
     case.scratch += up_to(rng, 3);
     case.out += up_to(rng, 40);
     case.journal += up_to(rng, 7);
@@ -267,7 +265,7 @@ fn with_cells(rng: &mut Rng, grid: usize, numbers: &[usize]) -> Case {
 }
 
 /// 1 to 12, mostly up to 6.
-fn small_grid(rng: &mut Rng) -> usize {
+pub(crate) fn small_grid(rng: &mut Rng) -> usize {
     let greatest = pick(rng, &[6, 6, 6, 12]);
     rng.range(1, greatest) as usize
 }
@@ -287,7 +285,7 @@ fn occupied(rng: &mut Rng, grid: usize) -> Vec<usize> {
 }
 
 /// Ascending cell numbers, at least one and at most `most`.
-fn sparse(rng: &mut Rng, grid: usize, most: u64) -> Vec<usize> {
+pub(crate) fn sparse(rng: &mut Rng, grid: usize, most: u64) -> Vec<usize> {
     let count = rng.range(1, most);
     let last = grid.pow(3) - 1;
     let mut numbers: Vec<usize> = (0..count).map(|_| up_to(rng, last)).collect();
@@ -371,10 +369,10 @@ fn large(rng: &mut Rng) -> Case {
     case
 }
 
-fn nothing(_: &mut Rng, _: usize, _: &mut Case) {}
+pub(crate) fn nothing(_: &mut Rng, _: usize, _: &mut Case) {}
 
 /// Junk in pads, in the header words that are not read, and after the records.
-fn not_read(rng: &mut Rng, _: usize, case: &mut Case) {
+pub(crate) fn not_read(rng: &mut Rng, _: usize, case: &mut Case) {
     for at in [28, 56, 60] {
         let junk = match rng.below(3) {
             0 => pick(rng, &NOT_FINITE),
@@ -408,7 +406,7 @@ fn large_lengths(rng: &mut Rng, number: usize, case: &mut Case) {
 }
 
 /// Each float that is not finite in each header float, edges of the finite ones too; each order of min and max on each axis.
-fn header_float(rng: &mut Rng, number: usize, case: &mut Case) {
+pub(crate) fn header_float(rng: &mut Rng, number: usize, case: &mut Case) {
     let values = NOT_FINITE.len() + FINITE.len();
     let pairs = NOT_BELOW.len() + BARELY_BELOW.len();
     if number.is_multiple_of(2) {
@@ -429,7 +427,7 @@ fn header_float(rng: &mut Rng, number: usize, case: &mut Case) {
 }
 
 /// Mark, version, grid size or count set anew.
-fn header_word(rng: &mut Rng, number: usize, case: &mut Case) {
+pub(crate) fn header_word(rng: &mut Rng, number: usize, case: &mut Case) {
     let bit = 1 << rng.below(32);
     let marks = [0x314d_5952 ^ bit, 0x314d_5452, 0x5259_4d31, 0];
     let versions = [1 ^ bit, 0, 2, 3, u32::MAX];
@@ -469,7 +467,7 @@ fn another_count(rng: &mut Rng, n: u32) -> u32 {
 }
 
 /// Cut or longer: every length up to 130, and those round the end of the header and of each of the last records.
-fn file_length(rng: &mut Rng, number: usize, case: &mut Case) {
+pub(crate) fn file_length(rng: &mut Rng, number: usize, case: &mut Case) {
     let whole = case.whole();
     let length = match number % 4 {
         0 => number / 4 % 131,
@@ -487,7 +485,7 @@ fn file_length(rng: &mut Rng, number: usize, case: &mut Case) {
 }
 
 /// A coordinate at or past g, or the last below it; axes in turn.
-fn coordinate(rng: &mut Rng, number: usize, case: &mut Case) {
+pub(crate) fn coordinate(rng: &mut Rng, number: usize, case: &mut Case) {
     let g = case.grid as u16;
     let any = word(rng) as u16;
     let value = pick(
@@ -512,7 +510,7 @@ fn coordinate(rng: &mut Rng, number: usize, case: &mut Case) {
 }
 
 /// A mass that is not finite, or hardly finite; both masses in turn.
-fn mass(rng: &mut Rng, number: usize, case: &mut Case) {
+pub(crate) fn mass(rng: &mut Rng, number: usize, case: &mut Case) {
     let bits = if one_in(rng, 4) {
         pick(rng, &FINITE)
     } else {
@@ -524,7 +522,7 @@ fn mass(rng: &mut Rng, number: usize, case: &mut Case) {
 }
 
 /// Coordinates and masses damaged in one record or in several.
-fn coordinates_and_masses(rng: &mut Rng, number: usize, case: &mut Case) {
+pub(crate) fn coordinates_and_masses(rng: &mut Rng, number: usize, case: &mut Case) {
     for _ in 0..rng.range(1, 2) {
         let axis = up_to(rng, 2);
         coordinate(rng, axis, case);
@@ -535,7 +533,7 @@ fn coordinates_and_masses(rng: &mut Rng, number: usize, case: &mut Case) {
 /// A short output, or no journal word, or both, once in two.
 fn later_causes(rng: &mut Rng, case: &mut Case) {
     if one_in(rng, 4) {
-        case.out = pick(rng, &[0, 63, case.needed() - 1]);
+        case.out = pick(rng, &[0, 63, case.needed - 1]);
     }
     if one_in(rng, 4) {
         case.journal = 0;
@@ -543,7 +541,7 @@ fn later_causes(rng: &mut Rng, case: &mut Case) {
 }
 
 /// Scratch of every length that a mistaken rule could ask for.
-fn scratch_length(rng: &mut Rng, number: usize, case: &mut Case) {
+pub(crate) fn scratch_length(rng: &mut Rng, number: usize, case: &mut Case) {
     let words = case.grid.pow(3);
     let more = up_to(rng, 100);
     let lengths = [
@@ -564,7 +562,7 @@ fn scratch_length(rng: &mut Rng, number: usize, case: &mut Case) {
 
 /// Output one short, exact, longer, empty; by the occupied cells and by the records.
 fn output_length(rng: &mut Rng, number: usize, case: &mut Case) {
-    let (needed, whole) = (case.needed(), case.whole());
+    let (needed, whole) = (case.needed, case.whole());
     let lengths = [
         needed - 1,
         needed,
@@ -589,7 +587,7 @@ fn journal_length(rng: &mut Rng, number: usize, case: &mut Case) {
     let lengths = [0, 1, 0, 2, 3, 4, 7, 64, up_to(rng, 40)];
     case.journal = lengths[number % lengths.len()];
     if one_in(rng, 8) {
-        case.out = case.needed() - 1;
+        case.out = case.needed - 1;
     }
 }
 
@@ -602,7 +600,7 @@ fn several(rng: &mut Rng, _: usize, case: &mut Case) {
 }
 
 /// One to four bytes set anew, or with a bit flipped.
-fn mutated(rng: &mut Rng, _: usize, case: &mut Case) {
+pub(crate) fn mutated(rng: &mut Rng, _: usize, case: &mut Case) {
     for _ in 0..rng.range(1, 4) {
         let within = if one_in(rng, 2) {
             HEADER

@@ -1,0 +1,222 @@
+-- The proof of the cycle of calls {build_mascon_node}. The measure is the number of cells, the product of the box's widths.
+-- The laws of `Written` say what each kind of node leaves in the buffer; what is here ties the code's places to them. Assumes nothing.
+use Prim.Native.Nat.{ℕ, _<_}
+use mathlib.Core.Path.{_≡_, sym, ap, _∙_, subst}
+use native.Mathlib.Omega.{arith}
+use lib.ListN.{length}
+use borrow.Author.Needs.{needs}
+use borrow.Fn.Kinds.{In}
+use borrow.Fn.PlainCycle.{Measures, is, falls, and}
+use Rattle.rym1.specs.Cells.{Slot}
+use Rattle.rym1.specs.Cells as file
+use Rattle.rtm1.specs.declared.Cells.{Cells}
+use Rattle.rtm1.specs.Boxes.{Within, cells, widest, lower, upper}
+use Rattle.rtm1.specs.Visit.{visit}
+use Rattle.rtm1.specs.Tree.{Tree, leaf, split, kindOf, kindAt, indices, treeOf}
+use Rattle.rtm1.proofs.Boxes.{Halves, halves}
+use Rattle.rtm1.proofs.Growth.{tree-empty}
+use Rattle.rtm1.proofs.Order.{empty-sums}
+use Rattle.sums.proofs.Slots.{grid-few}
+use Rattle.mascon_tree.specs.Written.{Space, Written}
+use Rattle.mascon_tree.proofs.Counted.{within-most, leaf-is, split-is}
+use Rattle.mascon_tree.proofs.Written.{room-low, room-high, written-split, node-room}
+use Rattle.mascon_tree.proofs.build_mascon_node.Reads as build-mascon-node
+use Rattle.mascon_tree.proofs.build_mascon_node.Kinds as kinds
+use Rattle.mascon_tree.proofs.+build_mascon_node.Lts-build_mascon_node as lts
+use Rattle.mascon_tree.proofs.boxes.halves.Reads as halves-reads
+use Rattle.mascon_tree.proofs.boxes.kind_of.Reads as kind-of-reads
+use Rattle.mascon_tree.proofs.out_empty.Reads as out-empty-reads
+use Rattle.mascon_tree.proofs.out_leaf.Reads as out-leaf-reads
+use Rattle.mascon_tree.proofs.out_split.Reads as out-split-reads
+use Rattle.sums.proofs.sums_of.Reads as sums-of-reads
+use Rattle.mascon_tree.proofs.+build_mascon_node.{statement}
+use Rattle.mascon_tree.proofs.+build_mascon_node.Tie.{close}
+
+abbrev μ : Measures 3 kinds.ps ℕ
+μ κs a = cells (a .1 .1 .1 .1 .1 .0)
+
+-- what the function is given at the measure t, and what a call of it asks below t
+abbrev given : ℕ → In 3 kinds.ps
+given t = and 3 kinds.ps (is 3 kinds.ps μ t) build-mascon-node.Pre
+
+abbrev below : ℕ → In 3 kinds.ps
+below t = and 3 kinds.ps (falls 3 kinds.ps _<_ μ t) build-mascon-node.Pre
+
+-- the contracts of what it calls
+abbrev calls : ℕ → lts.Claims
+calls t = (
+  sums-of-reads.Asked,
+  sums-of-reads.Learnt,
+  kind-of-reads.Asked,
+  kind-of-reads.Learnt,
+  out-empty-reads.Asked,
+  out-empty-reads.Learnt,
+  out-leaf-reads.Asked,
+  out-leaf-reads.Learnt,
+  halves-reads.Asked,
+  halves-reads.Learnt,
+  below t,
+  build-mascon-node.Post,
+  out-split-reads.Asked,
+  out-split-reads.Learnt,
+)
+
+module _ (t : ℕ) where
+  abbrev Begin : Type 0
+  Begin = lts.Start (calls t) (given t) build-mascon-node.Post
+
+  abbrev look : Begin → ℕ → Slot
+  look s = file.look (s .args .file .now)
+
+  abbrev g : Begin → ℕ
+  g s = s .args .g
+
+  abbrev b : Begin → Cells
+  b s = s .args .b
+
+  -- the places' ways back to the start
+  abbrev from-kind : lts.After-kind-of (calls t) (given t) build-mascon-node.Post → Begin
+  from-kind c = c .before .before .before .before .before
+
+  abbrev from-halves : lts.After-halves (calls t) (given t) build-mascon-node.Post → Begin
+  from-halves c = c .before .before .before .before .before .before .before .before
+
+  within : (s : Begin) → Within 256 (b s)
+  within s = within-most (g s) (b s) (grid-few (s .pre .1 .0)) (s .pre .1 .1 .0)
+
+  -- the kind that the match goes by is the definition's
+  kind-is : (c : lts.After-kind-of (calls t) (given t) build-mascon-node.Post) → kindAt (look (from-kind c)) (g (from-kind c)) (b (from-kind c)) ≡ c .kind-of .result
+  kind-is c = sym (c .kind-of .ensures ∙ ap (λ (n : ℕ). kindOf n (b (from-kind c))) (c .before .sums-of .ensures .1))
+
+  -- ---- the tree by kind, with the sums that the visit gave and the halves as the code has them
+
+  the-leaf : (c : lts.After-enum-told2 (calls t) (given t) build-mascon-node.Post)
+      → treeOf (look (from-kind (c .before .before))) (g (from-kind (c .before .before))) (b (from-kind (c .before .before)))
+      ≡ leaf (b (from-kind (c .before .before))) (c .before .before .before .sums-of .result) (indices (visit (look (from-kind (c .before .before))) (g (from-kind (c .before .before))) (b (from-kind (c .before .before)))))
+  the-leaf c = leaf-is _ _ _ _ (c .before .before .before .sums-of .ensures .0) (kind-is (c .before .before) ∙ c .enum-told2 .given .1)
+
+  split-halves : (c : lts.After-enum-told3 (calls t) (given t) build-mascon-node.Post) → Halves (g (from-kind (c .before .before))) (b (from-kind (c .before .before)))
+  split-halves c =
+      let s = from-kind (c .before .before) in
+      halves (g s) (length (visit (look s) (g s) (b s))) (b s) (kind-is (c .before .before) ∙ c .enum-told3 .given .1) (s .pre .1 .1 .0)
+
+  abbrev The-split : lts.After-halves (calls t) (given t) build-mascon-node.Post → Tree
+  The-split c =
+      split (b (from-halves c)) (c .before .before .before .before .sums-of .result) (treeOf (look (from-halves c)) (g (from-halves c)) (c .halves .result .low)) (treeOf (look (from-halves c)) (g (from-halves c)) (c .halves .result .high))
+
+  the-split : (c : lts.After-halves (calls t) (given t) build-mascon-node.Post) → treeOf (look (from-halves c)) (g (from-halves c)) (b (from-halves c)) ≡ The-split c
+  the-split c =
+      let s = from-halves c in
+      let told = c .before in
+      split-is (look s) (g s) (b s) (s .pre .1 .1 .0) _ _ (c .halves .ensures .0) (c .halves .ensures .1) _ (c .before .before .before .before .sums-of .ensures .0) (kind-is (told .before .before) ∙ told .enum-told3 .given .1)
+
+  space : (c : lts.After-halves (calls t) (given t) build-mascon-node.Post) → Space (from-halves c .args .out .now) (from-halves c .args .at) (from-halves c .args .node) (from-halves c .args .before) (The-split c)
+  space c =
+      let s = from-halves c in
+      subst (λ (u : Tree). Space (s .args .out .now) (s .args .at) (s .args .node) (s .args .before) u) (the-split c) (s .pre .1 .1 .1)
+
+  -- ---- the needs
+
+  sums-of-requires : lts.Need-sums-of-requires (calls t) (given t) build-mascon-node.Post
+  sums-of-requires c κs = (c .before .before .before .pre .1 .0, c .before .before .before .pre .1 .1 .0)
+
+  kind-of-requires : lts.Need-kind-of-requires (calls t) (given t) build-mascon-node.Post
+  kind-of-requires c κs = c .before .before .before .before .pre .1 .1 .0 .proper
+
+  enum-told : lts.Need-enum-told (calls t) (given t) build-mascon-node.Post
+  enum-told c = search needs
+
+  out-empty-requires : lts.Need-out-empty-requires (calls t) (given t) build-mascon-node.Post
+  out-empty-requires c κs =
+      let s = c .before .before .before .before .before .before .before .before in
+      let told = c .before in
+      let kind = kind-is (told .before .before) ∙ told .enum-told .given .1 in (
+        within s,
+        (c .before .before .before .before .sums-of .ensures .0 ∙ empty-sums (look s) (g s) (b s) kind, subst (λ (u : Tree). Space (s .args .out .now) (s .args .at) (s .args .node) (s .args .before) u) (tree-empty (look s) (g s) (b s) kind) (s .pre .1 .1 .1)),
+      )
+
+  enum-told-2 : lts.Need-enum-told-2 (calls t) (given t) build-mascon-node.Post
+  enum-told-2 c = search needs
+
+  out-leaf-requires : lts.Need-out-leaf-requires (calls t) (given t) build-mascon-node.Post
+  out-leaf-requires c κs =
+      let s = c .before .before .before .before .before .before .before .before in
+      let sums = c .before .before .before .before .sums-of in (
+        s .pre .1 .0,
+        (s .pre .1 .1 .0, (sums .ensures .1, subst (λ (u : Tree). Space (s .args .out .now) (s .args .at) (s .args .node) (s .args .before) u) (the-leaf (c .before)) (s .pre .1 .1 .1))),
+      )
+
+  enum-told-3 : lts.Need-enum-told-3 (calls t) (given t) build-mascon-node.Post
+  enum-told-3 c = search needs
+
+  halves-requires : lts.Need-halves-requires (calls t) (given t) build-mascon-node.Post
+  halves-requires c κs = c .before .before .before .before .before .before .before .pre .1 .1 .0 .proper
+
+  add-build-mascon-node : lts.Need-add-build-mascon-node (calls t) (given t) build-mascon-node.Post
+  add-build-mascon-node c =
+      let few = node-room _ _ _ _ _ (c .before .before .before .before .before .before .before .before .before .before .before .pre .1 .1 .1) .few in
+      record { fits = omega (arith, few) }
+
+  build-mascon-node-requires : lts.Need-build-mascon-node-requires (calls t) (given t) build-mascon-node.Post
+  build-mascon-node-requires c κs =
+      let h = c .before .before .before in
+      let s = from-halves h in
+      let half = split-halves (h .before) .low in (
+        subst (λ (q : Cells). cells q < t) (sym (h .halves .ensures .0)) (subst (λ (v : ℕ). cells (lower (widest (b s)) (b s)) < v) (s .pre .0) (half .fewer)),
+        (s .pre .1 .0, (subst (λ (q : Cells). Within (g s) q) (sym (h .halves .ensures .0)) (half .within), room-low _ _ _ _ (s .args .frame) _ _ _ _ (space h))),
+      )
+
+  build-mascon-node-requires-2 : lts.Need-build-mascon-node-requires-2 (calls t) (given t) build-mascon-node.Post
+  build-mascon-node-requires-2 c κs =
+      let h = c .before .before .before .before .before .before .before in
+      let s = from-halves h in
+      let first = c .before .before .before .build-mascon-node in
+      let half = split-halves (h .before) .high in (
+        subst (λ (q : Cells). cells q < t) (sym (h .halves .ensures .1)) (subst (λ (v : ℕ). cells (upper (widest (b s)) (b s)) < v) (s .pre .0) (half .fewer)),
+        (s .pre .1 .0, (subst (λ (q : Cells). Within (g s) q) (sym (h .halves .ensures .1)) (half .within), room-high _ _ _ _ (s .args .frame) _ _ _ _ (space h) _ _ (first .kept .0) (first .ensures))),
+      )
+
+  out-split-requires : lts.Need-out-split-requires (calls t) (given t) build-mascon-node.Post
+  out-split-requires c κs =
+      let s = c .before .before .before .before .before .before .before .before .before .before .before .before .before .before .before .before .before .before .before in
+      let room = node-room _ _ _ _ _ (s .pre .1 .1 .1) in
+      let same = c .before .before .before .build-mascon-node2 .kept .0 ∙ c .before .before .before .before .before .before .before .build-mascon-node .kept .0 in
+      (within s, (omega (arith, room .inside, same), room .few))
+
+  same-length : lts.Need-same-length (calls t) (given t) build-mascon-node.Post
+  same-length c = c .before .before .out-empty .kept .0
+
+  returns : lts.Need-returns (calls t) (given t) build-mascon-node.Post
+  returns c =
+      let s = c .before .before .before .before .before .before .before .before .before .before .before in
+      let told = c .before .before .before .before in
+      subst (λ (u : Tree). Written (s .args .out .now) (s .args .at) (s .args .node) (s .args .before) (s .args .frame) u (c .before .before .out-empty .last .0) (c .before .before .out-empty .result))
+      (sym (tree-empty (look s) (g s) (b s) (kind-is (told .before .before) ∙ told .enum-told .given .1))) (c .before .before .out-empty .ensures)
+
+  same-length-2 : lts.Need-same-length-2 (calls t) (given t) build-mascon-node.Post
+  same-length-2 c = c .before .before .out-leaf .kept .0
+
+  returns-2 : lts.Need-returns-2 (calls t) (given t) build-mascon-node.Post
+  returns-2 c =
+      let s = c .before .before .before .before .before .before .before .before .before .before .before in
+      subst (λ (u : Tree). Written (s .args .out .now) (s .args .at) (s .args .node) (s .args .before) (s .args .frame) u (c .before .before .out-leaf .last .0) (c .before .before .out-leaf .result))
+      (sym (the-leaf (c .before .before .before .before))) (c .before .before .out-leaf .ensures)
+
+  same-length-3 : lts.Need-same-length-3 (calls t) (given t) build-mascon-node.Post
+  same-length-3 c = c .before .before .out-split .kept .0 ∙ c .before .before .before .before .before .before .build-mascon-node2 .kept .0 ∙ c .before .before .before .before .before .before .before .before .before .before .build-mascon-node .kept .0
+
+  returns-3 : lts.Need-returns-3 (calls t) (given t) build-mascon-node.Post
+  returns-3 c =
+      let h = c .before .before .before .before .before .before .before .before .before .before .before .before .before .before in
+      let s = from-halves h in
+      let first = c .before .before .before .before .before .before .before .before .before .before .build-mascon-node in
+      let second = c .before .before .before .before .before .before .build-mascon-node2 in
+      let last = c .before .before .out-split in
+      subst (λ (u : Tree). Written (s .args .out .now) (s .args .at) (s .args .node) (s .args .before) (s .args .frame) u (last .last .0) (last .result))
+      (sym (the-split h))
+      (written-split _ _ _ _ (s .args .frame) _ _ _ _ (space h) (first .last .0) (second .last .0) (last .last .0) (first .result) (second .result) (last .result)
+      (first .ensures) (second .ensures) (last .ensures .0) (last .ensures .1))
+
+pub +build-mascon-node-spec : {M : Type 1} → statement M
++build-mascon-node-spec =
+    close μ λ t. lts.spec (calls t) (given t) build-mascon-node.Post (sums-of-requires t) (kind-of-requires t) (enum-told t) (out-empty-requires t) (enum-told-2 t) (out-leaf-requires t) (enum-told-3 t) (halves-requires t) (add-build-mascon-node t) (build-mascon-node-requires t) (build-mascon-node-requires-2 t) (out-split-requires t) (same-length t) (returns t) (same-length-2 t) (returns-2 t) (same-length-3 t) (returns-3 t)

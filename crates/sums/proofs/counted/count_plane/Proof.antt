@@ -1,0 +1,63 @@
+-- `sums::counted::count_plane` meets its contract: as `count_row`, a row a turn. Assumes nothing.
+use Prim.Native.Nat.{_+_, _-_, _*_, _≤_}
+use mathlib.Core.Path.{_≡_, refl}
+use native.Mathlib.Nat.{zero-add}
+use native.Mathlib.Omega.{arith}
+use Rattle.rym1.specs.Cells.{look}
+use Rattle.rtm1.specs.Visit.{row}
+use Rattle.sums.proofs.Turns.{Still, count-turn, count-end}
+use Rattle.sums.proofs.Slots.{grid-few}
+use Rattle.sums.proofs.counted.count_plane.Statement.{statement}
+use Rattle.sums.proofs.counted.count_plane.Tie as tie
+
+abbrev Inv-loop : tie.InvT-loop
+Inv-loop words file g b z n₀ y₀ end n y =
+    (y₀ ≤ y) × (y ≤ end) × (n ≤ 256 * (y - y₀)) × (Still (row (look file) g b z) end y n ≡ Still (row (look file) g b z) end y₀ 0)
+
+abbrev μ-loop : tie.MeasureT-loop
+μ-loop words file g b z n₀ y₀ end n y = end - y
+
+loop-holds : tie.Need-loop-holds Inv-loop μ-loop
+loop-holds c = (omega arith, omega (arith, c .before .before .pre .1 .0 .proper .in-y), omega arith, refl)
+
+count-row-requires : tie.Need-count-row-requires Inv-loop μ-loop
+count-row-requires c κs =
+    let s = c .before .before .before .before in
+    (s .pre .0, (s .pre .1 .0, (omega (arith, c .loop-test .taken, s .pre .1 .0 .to-y), s .pre .1 .1)))
+
+add-n : tie.Need-add-n Inv-loop μ-loop
+add-n c = let s = c .before .before .before .before .before in omega (arith, grid-few (s .pre .0), s .pre .1 .0 .to-y)
+
+add-y : tie.Need-add-y Inv-loop μ-loop
+add-y c = omega arith
+
+loop-less : tie.Need-loop-less Inv-loop μ-loop
+loop-less c = omega arith
+
+loop-again : tie.Need-loop-again Inv-loop μ-loop
+loop-again c =
+    let a = c .before .before .before .before .before .args in
+    let l = c .before .before .loop in
+    (omega arith, omega arith, omega arith, count-turn (row (look (a .file .now)) (a .g) (a .b) (a .z)) (a .b .y1) (l .y) (l .n) (l .n + c .count-row .result) _ (c .before .loop-test .taken) (omega (arith, c .count-row .ensures .0)) (l .inv .3))
+
+returns : tie.Need-returns Inv-loop μ-loop
+returns c =
+    let s = c .before .before .before .before in
+    let a = s .args in
+    let l = c .before .loop in
+    let all = count-end (row (look (a .file .now)) (a .g) (a .b) (a .z)) (a .b .y1) (l .y) (l .n) _ (c .loop-test .left) (l .inv .3) in
+    (rw (zero-add) at all, omega (arith, grid-few (s .pre .0), s .pre .1 .0 .to-y))
+
+pub count-plane-spec : {M : Type 1} → statement M
+count-plane-spec =
+    tie.close
+    (tie.spec
+    Inv-loop
+    μ-loop
+    loop-holds
+    count-row-requires
+    add-n
+    add-y
+    loop-less
+    loop-again
+    returns)

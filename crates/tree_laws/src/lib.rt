@@ -1,0 +1,1 @@
+// Theorems about the trees of rtm1. The crate has no function.

@@ -1,0 +1,483 @@
+//! Building a tree: the proved library against the rule, and the rule against the original.
+
+pub(crate) mod cases;
+#[cfg(test)]
+pub(crate) mod plain;
+
+use crate::ffi::{self, Built};
+use crate::lent::Lent;
+use crate::open::cases::{Case, Kind};
+use crate::open::{out_byte, scratch_word};
+use crate::original;
+use crate::points::{point_file, Header, Record};
+use crate::report::Report;
+use crate::rng::Rng;
+use crate::rule;
+use crate::search::{first, shared, Search};
+use cases::{exact, KINDS};
+
+/// An implementation of build.
+pub(crate) type Build = fn(&[u8], &mut [u32], &mut [u8]) -> Built;
+
+/// The seed of the first kind; the others follow.
+const SEED: u64 = 101;
+
+/// One call's buffers, and what the output shall hold afterwards.
+struct Desk {
+    file: Lent<u8>,
+    scratch: Lent<u32>,
+    out: Lent<u8>,
+    want_out: Vec<u8>,
+}
+
+impl Desk {
+    fn new() -> Self {
+        Self {
+            file: Lent::new(),
+            scratch: Lent::new(),
+            out: Lent::new(),
+            want_out: Vec::new(),
+        }
+    }
+
+    fn lay(&mut self, case: &Case) {
+        let (junk, shift) = (case.junk, case.junk as usize % 16);
+        self.file.fill(shift, case.file.iter().copied());
+        self.scratch
+            .fill(0, (0..case.scratch).map(|at| scratch_word(junk, at)));
+        self.out
+            .fill(shift / 2, (0..case.out).map(|at| out_byte(junk, at)));
+        self.want_out.clear();
+        self.want_out.extend_from_slice(self.out.slice());
+    }
+
+    /// Makes the call and says what differs from the rule, or in the rule from the original, if anything does.
+    fn differs(&mut self, build: Build, case: &Case) -> Option<String> {
+        self.lay(case);
+        let want = rule::tree::build(&case.file, case.scratch as u64, &mut self.want_out);
+        let got = build(
+            self.file.slice(),
+            self.scratch.slice_mut(),
+            self.out.slice_mut(),
+        );
+        if got != want {
+            return Some(format!(
+                "library answers {}, rule {}",
+                in_words(got),
+                in_words(want)
+            ));
+        }
+        first("output byte", self.out.slice(), &self.want_out)
+            .or_else(|| first("byte of the file lent", self.file.slice(), &case.file))
+            .or_else(|| self.broken())
+            .or_else(|| self.scratched(case.junk, want.answer))
+            .or_else(|| unlike_the_original(&case.file, want, &self.want_out))
+            .map(|what| format!("answer {}, {what}", in_words(want)))
+    }
+
+    /// A buffer with a changed canary.
+    fn broken(&self) -> Option<String> {
+        let buffers = [
+            ("file", self.file.intact()),
+            ("scratch", self.scratch.intact()),
+            ("output", self.out.intact()),
+        ];
+        let broken = buffers.iter().find(|(_, intact)| !intact);
+        broken.map(|(name, _)| format!("a write outside the {name}"))
+    }
+
+    /// A word of scratch that changed though the call did not pass 8.
+    fn scratched(&self, junk: u32, answer: u64) -> Option<String> {
+        let changed = |(at, &word): (usize, &u32)| word != scratch_word(junk, at);
+        let at = match answer {
+            1..=8 => self.scratch.slice().iter().enumerate().position(changed)?,
+            _ => return None,
+        };
+        Some(format!("scratch word {at} changed"))
+    }
+}
+
+/// An answer and its counts.
+pub(crate) fn in_words(built: Built) -> String {
+    match built.answer {
+        0..64 if (built.nodes, built.order) == (0, 0) => built.answer.to_string(),
+        _ => format!(
+            "{} ({} nodes, order {})",
+            built.answer, built.nodes, built.order
+        ),
+    }
+}
+
+/// What differs from the original in an accepted call, or where the original's tree would have fitted in a refusal by 9.
+pub(crate) fn unlike_the_original(file: &[u8], built: Built, out: &[u8]) -> Option<String> {
+    let accepted = built.answer >= 64;
+    if !accepted && built.answer != 9 {
+        return None;
+    }
+    let (tree, counts) = original::tree(file)?;
+    if !accepted {
+        let fits = tree.len() <= out.len();
+        return fits.then(|| format!("the original's tree has {} bytes", tree.len()));
+    }
+    if counts != built {
+        return Some(format!("the original's is {}", in_words(counts)));
+    }
+    first("byte beside the original", out, &tree)
+}
+
+/// Makes the call of a case and notes what it finds.
+fn visit(search: &mut Search, desk: &mut Desk, build: Build, name: &str, number: u64, case: &Case) {
+    let size = case.file.len() + 4 * case.scratch + case.out;
+    let wrong = desk.differs(build, case);
+    let told = wrong.map(|what| format!("{name}, case {number}: {}: {what}", described(case)));
+    search.note(size, number, told);
+}
+
+fn described(case: &Case) -> String {
+    format!(
+        "g {}, {} records, file {}, scratch {}, output {}",
+        case.grid,
+        case.records,
+        case.file.len(),
+        case.scratch,
+        case.out
+    )
+}
+
+/// Compares the cases of a kind, the work shared out by their numbers.
+fn compare(build: Build, seed: u64, kind: &Kind, cases: u64) -> Search {
+    shared(cases, |numbers| {
+        let (mut desk, mut search) = (Desk::new(), Search::default());
+        for number in numbers {
+            let case = kind.case(seed, number);
+            visit(&mut search, &mut desk, build, kind.name, number, &case);
+        }
+        search
+    })
+}
+
+pub(crate) fn record(cell: [u16; 3], number: u32) -> Record {
+    Record {
+        cell,
+        cauchy_mass: number as f32,
+        elliptic_mass: -0.5 * number as f32,
+    }
+}
+
+/// The file over a cube of `g` metres with a record for each of the cell numbers, in their order.
+pub(crate) fn of_cells(g: u32, numbers: impl Iterator<Item = u64>) -> Vec<u8> {
+    let records: Vec<Record> = (1..)
+        .zip(numbers)
+        .map(|(number, cell)| record(rule::cell_of(u64::from(g), cell), number))
+        .collect();
+    point_file(Header::cube(g, g as f32), &records)
+}
+
+/// A case of such a file, with just enough room.
+fn just(file: Vec<u8>) -> Case {
+    let (grid, records) = (rule::grid(&file) as usize, (file.len() - 64) / 16);
+    exact(file, grid, records)
+}
+
+/// A case of a file that is refused.
+fn refused(file: Vec<u8>, grid: usize, records: usize) -> Case {
+    let mut case = Case::of(file, grid, records);
+    case.out = 4096;
+    case
+}
+
+/// Cells at random, each at most once, about one in `share`.
+fn one_in(g: u64, share: u64) -> impl Iterator<Item = u64> {
+    let mut rng = Rng::new(g * share);
+    (0..g.pow(3)).filter(move |_| rng.below(share) == 0)
+}
+
+fn answer(answer: u64, nodes: u64, order: u64) -> Option<Built> {
+    Some(Built {
+        answer,
+        nodes,
+        order,
+    })
+}
+
+/// Cases by name, with their answers where 01 or arithmetic gives them.
+fn fixed() -> Vec<(&'static str, Case, Option<Built>)> {
+    let outside = point_file(Header::cube(192, 1.0), &[record([192, 5, 0], 1)]);
+    let grid_257 = point_file(Header::cube(257, 1.0), &[]);
+    let of_none = |g: u32| just(of_cells(g, 0..0));
+    let mut short = of_none(256);
+    short.scratch -= 1;
+    let corner = [0, 1, 4, 5, 16, 17, 20, 21, 12].into_iter();
+    vec![
+        ("g 1, no record", of_none(1), answer(144, 1, 0)),
+        (
+            "g 1, one record",
+            just(of_cells(1, 0..1)),
+            answer(148, 1, 1),
+        ),
+        ("g 2, full", just(of_cells(2, 0..8)), answer(176, 1, 8)),
+        ("g 3, a plane", just(of_cells(3, 0..9)), answer(340, 3, 9)),
+        (
+            "g 4, a corner",
+            just(of_cells(4, corner)),
+            answer(500, 5, 9),
+        ),
+        ("(192, 5, 0)", refused(outside, 192, 1), answer(6, 0, 0)),
+        ("g 257", refused(grid_257, 257, 0), answer(3, 0, 0)),
+        ("g 256, no record", of_none(256), answer(144, 1, 0)),
+        ("a word short at g 256", short, answer(8, 0, 0)),
+        (
+            "g 8, full",
+            just(of_cells(8, 0..512)),
+            answer(64 + 80 * 127 + 2048, 127, 512),
+        ),
+        ("g 64, full", just(of_cells(64, 0..1 << 18)), None),
+        ("g 192, thin", just(of_cells(192, one_in(192, 70))), None),
+        ("g 256, thin", just(of_cells(256, one_in(256, 900))), None),
+    ]
+}
+
+/// The fixed cases on one desk; an answer that is known is asked of the rule too.
+fn compare_fixed(build: Build) -> Search {
+    let (mut desk, mut search) = (Desk::new(), Search::default());
+    for (number, (name, case, answer)) in (0..).zip(fixed()) {
+        visit(&mut search, &mut desk, build, name, number, &case);
+        let mut out = vec![0; case.out];
+        let by_rule = rule::tree::build(&case.file, case.scratch as u64, &mut out);
+        if answer.is_some_and(|answer| answer != by_rule) {
+            search.mismatches += 1;
+            search.least = Some((
+                0,
+                number,
+                format!("{name}: rule answers {}", in_words(by_rule)),
+            ));
+        }
+    }
+    search
+}
+
+pub(crate) fn check(report: &mut Report) {
+    for (seed, kind) in (SEED..).zip(&KINDS) {
+        report.run(&format!("build: {}", kind.name), || {
+            compare(ffi::build, seed, kind, kind.cases).found()
+        });
+    }
+    report.run("build: fixed cases", || compare_fixed(ffi::build).found());
+}
+
+#[cfg(test)]
+mod tests {
+    use super::plain::{plain_build, Fault, FAULTS};
+    use super::*;
+    use std::collections::{BTreeMap, BTreeSet};
+
+    /// Cases of each kind that a test looks at.
+    const FEW: u64 = 1000;
+
+    /// A kind by its name, with its seed.
+    fn kind(name: &str) -> (u64, &'static Kind) {
+        let mut kinds = (SEED..).zip(&KINDS);
+        kinds
+            .find(|(_, kind)| kind.name == name)
+            .expect("a kind of this name")
+    }
+
+    /// The kinds in which an implementation is found to be wrong.
+    fn found(build: Build) -> Vec<&'static str> {
+        let wrong = |(seed, kind): &(u64, &'static Kind)| {
+            let cases = if kind.cases < FEW { 2 } else { 100 };
+            compare(build, *seed, kind, cases).mismatches > 0
+        };
+        let wrong = (SEED..).zip(&KINDS).filter(wrong);
+        wrong.map(|(_, kind)| kind.name).collect()
+    }
+
+    /// The rule's answers on the first cases of a kind.
+    fn answers(name: &str) -> BTreeMap<u64, u64> {
+        let (seed, kind) = kind(name);
+        let mut seen = BTreeMap::new();
+        for case in (0..FEW).map(|number| kind.case(seed, number)) {
+            let mut out = vec![0; case.out];
+            let built = rule::tree::build(&case.file, case.scratch as u64, &mut out);
+            *seen.entry(built.answer.min(64)).or_default() += 1;
+        }
+        seen
+    }
+
+    /// Each kind reaches the answers that it is for, and no good file is refused.
+    #[test]
+    fn kinds_are_what_they_say() {
+        for name in [
+            "rows and planes",
+            "8 and 9 points",
+            "cancelling masses",
+            "extreme masses",
+            "uneven boxes",
+            "repeated cells",
+            "junk not read",
+        ] {
+            assert_eq!(answers(name), BTreeMap::from([(64, FEW)]), "{name}");
+        }
+        let only = |name: &str, wanted: &[u64]| {
+            let seen = answers(name);
+            assert!(seen.keys().eq(wanted), "{name}: {seen:?}");
+        };
+        only("header floats", &[5, 64]);
+        only("header words", &[2, 3, 4, 6, 8, 64]);
+        only("file lengths", &[1, 4, 64]);
+        only("coordinates", &[6, 64]);
+        only("masses", &[7, 64]);
+        only("6 and 7 together", &[6, 7, 64]);
+        only("scratch lengths", &[8, 9, 64]);
+        only("output lengths", &[9, 64]);
+        only("several causes", &[1, 2, 3, 4, 5, 6, 7, 8, 9, 64]);
+    }
+
+    #[test]
+    fn every_grid_size_is_met() {
+        let grids = |name: &str, cases: u64| {
+            let (seed, kind) = kind(name);
+            let grids = (0..cases).map(|number| kind.case(seed, number).grid);
+            grids.collect::<BTreeSet<usize>>()
+        };
+        for name in ["every grid size", "rows and planes", "8 and 9 points"] {
+            assert!(grids(name, 400).into_iter().eq(1..=24), "{name}");
+        }
+        let large = grids("large grids", 100);
+        assert!(
+            [64, 192, 256].iter().all(|g| large.contains(g)),
+            "{large:?}"
+        );
+    }
+
+    /// Trees of the kind hold what it is for: infinities of both signs, and sums of 0 over points.
+    #[test]
+    fn floats_are_met() {
+        let count = |name: &str, wanted: fn(&[f32]) -> bool| {
+            let (seed, kind) = kind(name);
+            let cases = (0..300).map(|number| kind.case(seed, number));
+            let wanted = |case: &Case| {
+                let (tree, built) = rule::tree::tree(&case.file);
+                let end = tree.len() - 4 * built.order as usize;
+                let (floats, _) = tree[64..end].as_chunks::<4>();
+                let floats: Vec<f32> = floats
+                    .iter()
+                    .map(|&bytes| f32::from_le_bytes(bytes))
+                    .collect();
+                floats.chunks(20).any(wanted)
+            };
+            cases.filter(wanted).count()
+        };
+        assert!(count("extreme masses", |node| node[4] == f32::INFINITY) > 20);
+        assert!(count("extreme masses", |node| node[5] == f32::NEG_INFINITY) > 20);
+        assert!(count("extreme masses", |node| node[8].is_infinite()) > 0);
+        assert!(count("uneven boxes", |node| node[16].is_infinite()) == 0);
+        assert!(count("cancelling masses", |node| node[19] > 8.0 && node[4] == 0.0) > 50);
+        assert!(count("cancelling masses", |node| node[8].is_infinite()) > 5);
+    }
+
+    /// A second implementation agrees with the rule and the original.
+    #[test]
+    fn plain_build_agrees() {
+        let plain: Build = |file, scratch, out| plain_build(Fault::None, file, scratch, out);
+        assert_eq!(found(plain), [""; 0]);
+        assert_eq!(compare_fixed(plain).mismatches, 0);
+    }
+
+    /// Made-up faults of the tree are found, and where they should be.
+    #[test]
+    fn faults_of_trees_are_found() {
+        for (number, (faulty, name)) in FAULTS.into_iter().enumerate() {
+            let kinds = found(faulty);
+            assert!(kinds.contains(&name), "fault {number}: {kinds:?}");
+        }
+        let header: Build = |f, s, o| plain_build(Fault::HeaderHasOrderCount, f, s, o);
+        let (seed, repeated) = kind("repeated cells");
+        assert_eq!(compare(header, seed, repeated, 100).mismatches, 100);
+        let (seed, every) = kind("every grid size");
+        assert_eq!(compare(header, seed, every, 100).mismatches, 0);
+    }
+
+    /// Made-up faults of a call are found, and where they should be.
+    #[test]
+    fn faults_of_calls_are_found() {
+        let touches_scratch: Build = |file, scratch, out| {
+            scratch.iter_mut().take(1).for_each(|word| *word ^= 1);
+            plain_build(Fault::None, file, scratch, out)
+        };
+        let kinds = found(touches_scratch);
+        assert!(kinds.contains(&"scratch lengths") && kinds.contains(&"masses"));
+        assert!(!kinds.contains(&"every grid size"));
+        let zeroes_the_rest: Build = |file, scratch, out| {
+            let built = plain_build(Fault::None, file, scratch, out);
+            if built.answer >= 64 {
+                out[built.answer as usize..].fill(0);
+            }
+            built
+        };
+        assert!(found(zeroes_the_rest).contains(&"every grid size"));
+        let counts_swapped: Build = |file, scratch, out| {
+            let built = plain_build(Fault::None, file, scratch, out);
+            Built {
+                nodes: built.order,
+                order: built.nodes,
+                ..built
+            }
+        };
+        assert!(found(counts_swapped).contains(&"8 and 9 points"));
+        let counts_in_a_refusal: Build = |file, scratch, out| {
+            let mut room = vec![0; 1 << 20];
+            let built = plain_build(Fault::None, file, scratch, &mut room);
+            let length = built.answer as usize;
+            match out.get_mut(..length) {
+                Some(out) if length >= 64 => out.copy_from_slice(&room[..length]),
+                None => return Built { answer: 9, ..built },
+                _ => (),
+            }
+            built
+        };
+        assert!(found(counts_in_a_refusal).contains(&"output lengths"));
+        let wants_less: Build = |file, scratch, out| match scratch.len() {
+            0..216 => plain_build(Fault::None, file, &mut [0; 216], out),
+            _ => plain_build(Fault::None, file, scratch, out),
+        };
+        let kinds = found(wants_less);
+        assert!(kinds.contains(&"scratch lengths") && !kinds.contains(&"output lengths"));
+    }
+
+    #[test]
+    fn the_smallest_is_told() {
+        let wrong: Build = |_, _, _| Built::refused(5);
+        let (seed, kind) = kind("junk not read");
+        let what = compare(wrong, seed, kind, 300).found();
+        assert_eq!((what.cases, what.mismatches), (300, 300));
+        let what = what.smallest.expect("a mismatch");
+        assert!(
+            what.contains("g 1, 1 records, file 80, scratch 1, "),
+            "{what}"
+        );
+        assert!(
+            what.ends_with("library answers 5, rule 148 (1 nodes, order 1)"),
+            "{what}"
+        );
+    }
+
+    /// A rule that is not the original's is told, though the library has it too.
+    #[cfg(original)]
+    #[test]
+    fn the_original_is_asked() {
+        let file = of_cells(3, 0..9);
+        let (tree, built) = rule::tree::tree(&file);
+        assert_eq!(unlike_the_original(&file, built, &tree), None);
+        let mut other = tree.clone();
+        other[70] ^= 1;
+        let what = unlike_the_original(&file, built, &other).expect("a difference");
+        assert!(what.starts_with("byte beside the original 70 is"), "{what}");
+        let what = unlike_the_original(&file, Built { nodes: 4, ..built }, &tree);
+        assert!(what.is_some_and(|what| what.contains("(3 nodes, order 9)")));
+        let nine = Built::refused(9);
+        assert_eq!(unlike_the_original(&file, nine, &tree[..339]), None);
+        assert!(unlike_the_original(&file, nine, &tree).is_some());
+        assert_eq!(unlike_the_original(&[], Built::refused(1), &[]), None);
+    }
+}

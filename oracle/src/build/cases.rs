@@ -1,0 +1,518 @@
+//! Point files and lengths of buffers to build trees from, drawn by kind.
+
+use crate::open::cases::{
+    coordinate, coordinates_and_masses, file_length, finite, header, header_float, header_word,
+    kind, mass, mutated, not_read, nothing, one_in, pick, scratch_length, shuffle, small_grid,
+    sparse, up_to, word, Case, Damage, Kind, FINITE,
+};
+use crate::points::{point_file, Header, Record};
+use crate::rng::Rng;
+use crate::rule::cell_of;
+use crate::rule::tree::tree;
+
+/// Cells in ascending order, at a grid size.
+type Shape = fn(&mut Rng, usize) -> Vec<usize>;
+
+/// Masses for so many points, in cell order.
+type Masses = fn(&mut Rng, usize) -> Vec<f32>;
+
+pub(crate) const KINDS: [Kind; 21] = [
+    kind("every grid size", 16_000, every_grid, nothing),
+    kind("full grids", 1_200, full_grid, nothing),
+    kind("touching balls", 8_000, balls, nothing),
+    kind("rows and planes", 20_000, flat, nothing),
+    kind("8 and 9 points", 40_000, near_a_leaf, nothing),
+    kind("cancelling masses", 60_000, cancelling, nothing),
+    kind("extreme masses", 40_000, extreme, nothing),
+    kind("uneven boxes", 40_000, uneven, nothing),
+    kind("repeated cells", 30_000, repeated, nothing),
+    kind("junk not read", 20_000, small, not_read),
+    kind("large grids", 160, large, large_lengths),
+    kind("header floats", 20_000, small, header_float),
+    kind("header words", 20_000, small, header_word),
+    kind("file lengths", 20_000, small, file_length),
+    kind("coordinates", 20_000, with_records, coordinate),
+    kind("masses", 20_000, with_records, mass),
+    kind(
+        "6 and 7 together",
+        20_000,
+        with_records,
+        coordinates_and_masses,
+    ),
+    kind("scratch lengths", 30_000, small, scratch_length),
+    kind("output lengths", 40_000, small, output_length),
+    kind("several causes", 60_000, small, several),
+    kind("mutated bytes", 40_000, small, mutated),
+];
+
+/// Damage that `several` puts together.
+const DAMAGES: [Damage; 8] = [
+    not_read,
+    header_float,
+    header_word,
+    file_length,
+    coordinate,
+    mass,
+    scratch_length,
+    output_length,
+];
+
+/// Masses such as a body has.
+const USUAL: [Masses; 3] = [positive, positive, any];
+
+/// Masses that take each other away, wholly or nearly.
+const CANCELLING: [Masses; 4] = [balanced, balanced, near_nothing, far];
+
+/// Masses at the edges of what is finite.
+const EXTREME: [Masses; 4] = [zeros, edges, huge, any];
+
+/// A file as it stands, with just enough room for its tree; build has no journal.
+pub(crate) fn exact(file: Vec<u8>, grid: usize, records: usize) -> Case {
+    let (_, built) = tree(&file);
+    let mut case = Case::of(file, grid, records);
+    case.needed = built.answer as usize;
+    case.out = case.needed;
+    case.journal = 0;
+    case
+}
+
+/// The good case of these records, with room, often more than enough.
+fn with_room(rng: &mut Rng, header: Header, records: &[Record]) -> Case {
+    let file = point_file(header, records);
+    let mut case = exact(file, header.grid as usize, records.len());
+    case.scratch += up_to(rng, 3);
+    case.out += up_to(rng, 40);
+    case.junk = word(rng);
+    case
+}
+
+/// A record for each cell, in cell order.
+fn records(rng: &mut Rng, grid: usize, cells: &[usize], masses: &[Masses]) -> Vec<Record> {
+    let cauchy = pick(rng, masses)(rng, cells.len());
+    let elliptic = pick(rng, masses)(rng, cells.len());
+    let masses = cauchy.into_iter().zip(elliptic);
+    cells
+        .iter()
+        .zip(masses)
+        .map(|(&number, (cauchy_mass, elliptic_mass))| Record {
+            cell: cell_of(grid as u64, number as u64),
+            cauchy_mass,
+            elliptic_mass,
+        })
+        .collect()
+}
+
+/// In cell order, the other way round, or in none.
+fn reorder(rng: &mut Rng, records: &mut [Record]) {
+    match rng.below(4) {
+        0 => (),
+        1 => records.reverse(),
+        _ => shuffle(rng, records),
+    }
+}
+
+/// A share of 1, in thousandths.
+fn share(rng: &mut Rng) -> f64 {
+    rng.below(1001) as f64 / 1000.0
+}
+
+/// A cube, a box that is longer one way than another, or one of any floats.
+fn a_header(rng: &mut Rng, grid: usize) -> Header {
+    match rng.below(3) {
+        0 => Header::cube(grid as u32, pick(rng, &[1.0, 2.0, 3.0, 0.1, 1e-20, 1e30])),
+        1 => {
+            let min = [0; 3].map(|_| ((share(rng) - 0.5) * 1e4) as f32);
+            let edges = [0; 3].map(|_| (share(rng) * 1e3 + 0.1) as f32);
+            let max = [0, 1, 2].map(|axis| min[axis] + edges[axis]);
+            Header {
+                min,
+                max,
+                ..header(rng, grid)
+            }
+        }
+        _ => header(rng, grid),
+    }
+}
+
+/// The case of a shape at a grid size, with one of these kinds of masses.
+fn drawn(rng: &mut Rng, grid: usize, shape: Shape, masses: &[Masses]) -> Case {
+    let cells = shape(rng, grid);
+    let mut records = records(rng, grid, &cells, masses);
+    reorder(rng, &mut records);
+    let header = a_header(rng, grid);
+    with_room(rng, header, &records)
+}
+
+/// 1 to 24.
+fn any_grid(rng: &mut Rng) -> usize {
+    rng.range(1, 24) as usize
+}
+
+fn every_grid(rng: &mut Rng) -> Case {
+    let grid = any_grid(rng);
+    drawn(rng, grid, any_share, &USUAL)
+}
+
+fn full_grid(rng: &mut Rng) -> Case {
+    let grid = any_grid(rng);
+    drawn(rng, grid, all, &USUAL)
+}
+
+fn balls(rng: &mut Rng) -> Case {
+    let grid = any_grid(rng);
+    drawn(rng, grid, touching_balls, &USUAL)
+}
+
+fn flat(rng: &mut Rng) -> Case {
+    let grid = any_grid(rng);
+    drawn(rng, grid, rows_and_planes, &USUAL)
+}
+
+fn near_a_leaf(rng: &mut Rng) -> Case {
+    let grid = any_grid(rng);
+    drawn(rng, grid, near_eight, &USUAL)
+}
+
+/// Any shape up to grid size 12.
+fn of_masses(rng: &mut Rng, masses: &[Masses]) -> Case {
+    let grid = small_grid(rng);
+    let shape = pick::<Shape>(rng, &[any_share, any_share, rows_and_planes, near_eight]);
+    drawn(rng, grid, shape, masses)
+}
+
+fn cancelling(rng: &mut Rng) -> Case {
+    of_masses(rng, &CANCELLING)
+}
+
+fn extreme(rng: &mut Rng) -> Case {
+    of_masses(rng, &EXTREME)
+}
+
+fn small(rng: &mut Rng) -> Case {
+    of_masses(rng, &USUAL)
+}
+
+/// As above, with at least one record.
+fn with_records(rng: &mut Rng) -> Case {
+    loop {
+        let case = small(rng);
+        if case.records > 0 {
+            return case;
+        }
+    }
+}
+
+/// Any header floats and any masses.
+fn uneven(rng: &mut Rng) -> Case {
+    let grid = small_grid(rng);
+    let cells = any_share(rng, grid);
+    let records = records(rng, grid, &cells, &[positive, any, balanced]);
+    let header = header(rng, grid);
+    with_room(rng, header, &records)
+}
+
+/// Cells more than once, each time with other masses.
+fn repeated(rng: &mut Rng) -> Case {
+    let grid = small_grid(rng);
+    let mut cells = any_share(rng, grid);
+    if cells.is_empty() {
+        cells.push(up_to(rng, grid.pow(3) - 1));
+    }
+    let mut records = records(rng, grid, &cells, &USUAL);
+    reorder(rng, &mut records);
+    for _ in 0..rng.range(1, 12) {
+        let again = Record {
+            cauchy_mass: finite(rng),
+            elliptic_mass: finite(rng),
+            ..pick(rng, &records)
+        };
+        let place = up_to(rng, records.len());
+        records.insert(place, again);
+    }
+    let header = a_header(rng, grid);
+    with_room(rng, header, &records)
+}
+
+/// Grid sizes 25 to 64; a few at 192 and 256, with few points.
+fn large(rng: &mut Rng) -> Case {
+    if one_in(rng, 16) {
+        let grid = pick(rng, &[192, 256]);
+        return drawn(rng, grid, scattered, &USUAL);
+    }
+    let grid = if one_in(rng, 8) {
+        64
+    } else {
+        rng.range(25, 48) as usize
+    };
+    let shape = pick::<Shape>(rng, &[scattered, touching_balls, near_eight, thin]);
+    drawn(rng, grid, shape, &USUAL)
+}
+
+fn all(_: &mut Rng, grid: usize) -> Vec<usize> {
+    (0..grid.pow(3)).collect()
+}
+
+/// None, a few, about a share of all, all.
+fn any_share(rng: &mut Rng, grid: usize) -> Vec<usize> {
+    match rng.below(16) {
+        0 => Vec::new(),
+        1 => all(rng, grid),
+        2..6 => sparse(rng, grid, 12),
+        6..10 => sparse(rng, grid, 60),
+        _ => {
+            let share = rng.range(1, 15);
+            let cells = all(rng, grid).into_iter();
+            cells.filter(|_| rng.below(16) < share).collect()
+        }
+    }
+}
+
+fn scattered(rng: &mut Rng, grid: usize) -> Vec<usize> {
+    sparse(rng, grid, 400)
+}
+
+/// About a cell in twenty.
+fn thin(rng: &mut Rng, grid: usize) -> Vec<usize> {
+    let cells = all(rng, grid).into_iter();
+    cells.filter(|_| one_in(rng, 20)).collect()
+}
+
+/// Two balls that touch, anywhere and of any size; what is outside the grid is cut off.
+fn touching_balls(rng: &mut Rng, grid: usize) -> Vec<usize> {
+    let side = grid as f64;
+    let middle = [0; 3].map(|_| share(rng) * side);
+    let radii = [0; 2].map(|_| (0.1 + 0.3 * share(rng)) * side);
+    let way = [0; 3].map(|_| share(rng) - 0.5);
+    let length = way.iter().map(|part| part * part).sum::<f64>().sqrt() + 1e-9;
+    let other = [0, 1, 2].map(|axis| middle[axis] + way[axis] / length * (radii[0] + radii[1]));
+    let within = |cell: [u16; 3], middle: [f64; 3], radius: f64| {
+        let parts = [0, 1, 2].map(|axis| f64::from(cell[axis]) + 0.5 - middle[axis]);
+        parts.iter().map(|part| part * part).sum::<f64>() < radius * radius
+    };
+    let either = |&number: &usize| {
+        let cell = cell_of(grid as u64, number as u64);
+        within(cell, middle, radii[0]) || within(cell, other, radii[1])
+    };
+    all(rng, grid).into_iter().filter(either).collect()
+}
+
+/// One to three rows or planes along the axes, whole or with gaps.
+fn rows_and_planes(rng: &mut Rng, grid: usize) -> Vec<usize> {
+    let mut taken = Vec::new();
+    for _ in 0..rng.range(1, 3) {
+        let at = [0; 3].map(|_| up_to(rng, grid - 1) as u16);
+        let fixed = pick(
+            rng,
+            &[
+                [true, true, false],
+                [true, false, true],
+                [false, true, true],
+                [true, false, false],
+                [false, true, false],
+                [false, false, true],
+            ],
+        );
+        taken.push((at, fixed));
+    }
+    let gaps = pick(rng, &[0, 0, 1, 3]);
+    let has = |&number: &usize| {
+        let cell = cell_of(grid as u64, number as u64);
+        taken
+            .iter()
+            .any(|(at, fixed)| (0..3).all(|axis| !fixed[axis] || cell[axis] == at[axis]))
+    };
+    let cells = all(rng, grid).into_iter().filter(has);
+    cells.filter(|_| rng.below(8) >= gaps).collect()
+}
+
+/// 7 to 10 points in each of one to four boxes, the whole grid or parts of it.
+fn near_eight(rng: &mut Rng, grid: usize) -> Vec<usize> {
+    let mut cells = Vec::new();
+    for _ in 0..rng.range(1, 4) {
+        let ends = [0; 3].map(|_| {
+            let (a, b) = (up_to(rng, grid), up_to(rng, grid));
+            if a == b || one_in(rng, 4) {
+                (0, grid)
+            } else {
+                (a.min(b), a.max(b))
+            }
+        });
+        for _ in 0..rng.range(7, 10) {
+            let [x, y, z] = ends.map(|(low, high)| low + up_to(rng, high - low - 1));
+            cells.push((z * grid + y) * grid + x);
+        }
+    }
+    cells.sort_unstable();
+    cells.dedup();
+    cells
+}
+
+/// Above 0, of about one size.
+fn positive(rng: &mut Rng, points: usize) -> Vec<f32> {
+    let size = pick(rng, &[1.0, 1e-3, 1e9, 1e-25]);
+    let mass = |_| size * (0.5 + rng.below(1 << 24) as f32 / 1.6e7);
+    (0..points).map(mass).collect()
+}
+
+fn any(rng: &mut Rng, points: usize) -> Vec<f32> {
+    (0..points).map(|_| finite(rng)).collect()
+}
+
+fn zeros(rng: &mut Rng, points: usize) -> Vec<f32> {
+    (0..points).map(|_| pick(rng, &[0.0, -0.0])).collect()
+}
+
+fn edges(rng: &mut Rng, points: usize) -> Vec<f32> {
+    (0..points)
+        .map(|_| f32::from_bits(pick(rng, &FINITE)))
+        .collect()
+}
+
+/// Sums that narrow to infinity, or nearly: the greatest float and others near it, mostly of one sign.
+fn huge(rng: &mut Rng, points: usize) -> Vec<f32> {
+    let sign = pick(rng, &[1.0, -1.0]);
+    let of = [f32::MAX, f32::MAX / 2.0, 1.2e31, -f32::MAX, 0.0];
+    (0..points)
+        .map(|_| sign * of[pick(rng, &[0, 0, 1, 2, 3, 4])])
+        .collect()
+}
+
+/// Whole multiples of a power of two, with the sum 0; once 2^-100 is below 1e-30, twice is above.
+fn balanced(rng: &mut Rng, points: usize) -> Vec<f32> {
+    let unit = 2f32.powi(pick(rng, &[0, -100, -126, 100]));
+    let mut times: Vec<i64> = (0..points).map(|_| rng.below(9) as i64 - 4).collect();
+    let sum: i64 = times.iter().sum();
+    if let Some(last) = times.last_mut() {
+        *last -= sum;
+    }
+    times.iter().map(|&n| n as f32 * unit).collect()
+}
+
+/// Zeros of both signs and up to three masses whose sum is 1e-30, itself a multiple of 2^-149, or the multiple before or after
+/// it, of either sign.
+fn near_nothing(rng: &mut Rng, points: usize) -> Vec<f32> {
+    let unit = f64::from(f32::from_bits(1));
+    let multiple = 1e-30 / unit + rng.below(3) as f64 - 1.0;
+    let mut rest = multiple * unit * pick(rng, &[1.0, -1.0]);
+    let mut masses = zeros(rng, points);
+    let start = up_to(rng, points.saturating_sub(3));
+    for mass in masses.iter_mut().skip(start).take(3) {
+        *mass = rest as f32;
+        rest -= f64::from(*mass);
+    }
+    masses
+}
+
+/// Pairs that cancel and a small rest: moments far greater than the sum, centres far outside.
+fn far(rng: &mut Rng, points: usize) -> Vec<f32> {
+    let size = pick(rng, &[1.0, 1e10, 1e30, f32::MAX]);
+    let paired = points.saturating_sub(1) & !1;
+    let mut masses = vec![0.0; points];
+    for pair in masses[..paired].chunks_mut(2) {
+        pair.copy_from_slice(&[size, -size]);
+    }
+    if let Some(last) = masses.last_mut() {
+        *last = pick(rng, &[0.0, 1e-29, 1e-31, -1e-20, 1.0]);
+    }
+    masses
+}
+
+/// A short buffer, or nothing.
+fn large_lengths(rng: &mut Rng, number: usize, case: &mut Case) {
+    match number % 8 {
+        0 => scratch_length(rng, number / 8, case),
+        1 => output_length(rng, number / 8, case),
+        _ => (),
+    }
+}
+
+/// Output one short, exact, longer, empty; short of a word, of a node, of the order; the point file's own length.
+pub(crate) fn output_length(rng: &mut Rng, number: usize, case: &mut Case) {
+    let (needed, whole) = (case.needed, case.whole());
+    let lengths = [
+        needed - 1,
+        needed,
+        needed + 1,
+        needed + up_to(rng, 100),
+        0,
+        63,
+        64,
+        143,
+        needed - 4,
+        needed - 80,
+        needed.saturating_sub(4 * case.records),
+        whole,
+        up_to(rng, needed - 1),
+    ];
+    case.out = lengths[number % lengths.len()];
+}
+
+/// Two to four damages together.
+fn several(rng: &mut Rng, _: usize, case: &mut Case) {
+    for _ in 0..rng.range(2, 4) {
+        let number = up_to(rng, 10_000);
+        pick(rng, &DAMAGES)(rng, number, case);
+    }
+}
+
+#[cfg(test)]
+mod tests {
+    use super::*;
+    use std::collections::BTreeSet;
+
+    /// Sums in any order of what a drawn list of masses holds.
+    fn sums(masses: Masses, points: usize) -> Vec<f64> {
+        let mut rng = Rng::new(points as u64);
+        (0..200)
+            .map(|_| masses(&mut rng, points).into_iter().map(f64::from).sum())
+            .collect()
+    }
+
+    #[test]
+    fn balanced_masses_have_the_sum_0() {
+        for points in [2, 9, 60, 300] {
+            assert!(sums(balanced, points).iter().all(|&sum| sum == 0.0));
+        }
+    }
+
+    /// 1e-30 itself, and the sums of floats next to it, both signs.
+    #[test]
+    fn near_nothing_is_on_both_sides() {
+        let unit = f64::from(f32::from_bits(1));
+        let at = 1e-30 / unit;
+        assert_eq!(at, at.floor());
+        let seen: BTreeSet<i64> = sums(near_nothing, 9)
+            .into_iter()
+            .map(|sum| (sum / unit) as i64)
+            .collect();
+        let magnitudes = [at - 1.0, at, at + 1.0].map(|n| n as i64);
+        let wanted = magnitudes.iter().flat_map(|&n| [n, -n]);
+        assert_eq!(seen, wanted.collect::<BTreeSet<i64>>());
+    }
+
+    #[test]
+    fn shapes_are_what_they_say() {
+        let mut rng = Rng::new(5);
+        let shapes: [Shape; 6] = [
+            all,
+            any_share,
+            thin,
+            touching_balls,
+            rows_and_planes,
+            near_eight,
+        ];
+        for shape in shapes {
+            for grid in 1..=24 {
+                let cells = shape(&mut rng, grid);
+                assert!(cells.is_sorted_by(|a, b| a < b));
+                assert!(cells.last().is_none_or(|&last| last < grid.pow(3)));
+            }
+        }
+        let sizes: Vec<usize> = (0..200).map(|_| near_eight(&mut rng, 12).len()).collect();
+        assert!([7, 8, 9, 10].iter().all(|size| sizes.contains(size)));
+        let balls: Vec<usize> = (0..50)
+            .map(|_| touching_balls(&mut rng, 20).len())
+            .collect();
+        assert!(balls.iter().filter(|&&size| size > 500).count() > 25);
+    }
+}

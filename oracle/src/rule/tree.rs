@@ -1,0 +1,488 @@
+//! 01's rule for tree files, written from its sentences: a box's points are those of the box above it that lie in it.
+
+use super::{cell_number, count, float, grid, judge, records, word};
+use crate::ffi::Built;
+use std::collections::BTreeMap;
+
+pub(crate) const HEADER: usize = 64;
+pub(crate) const NODE: usize = 80;
+
+const MARK: u32 = 0x314d_5452;
+const VERSION: u32 = 2;
+
+/// A leaf has at most this many points, unless it is a single cell.
+const LEAF: usize = 8;
+
+/// A mass sum up to this magnitude has no centre of its own.
+const NO_SUM: f64 = 1e-30;
+
+/// The link to a child without points, and of a node without children.
+const NO_LINK: f64 = -1.0;
+
+/// An occupied cell: its coordinates, its last record's index in the file and masses.
+struct Point {
+    index: u32,
+    place: [f64; 3],
+    masses: [f64; 2],
+}
+
+/// A box of cells, ends excluded.
+#[derive(Clone, Copy)]
+struct Cells {
+    low: [f64; 3],
+    high: [f64; 3],
+}
+
+/// A node's sums: masses and moments, Cauchy, elliptic; the plain moments; the count.
+#[derive(Default)]
+struct Sums {
+    masses: [f64; 2],
+    moments: [[f64; 3]; 2],
+    plain: [f64; 3],
+    count: f64,
+}
+
+/// A node in cells: centres of mass are Cauchy, elliptic, constant.
+struct Node {
+    cells: Cells,
+    sums: Sums,
+    centres: [[f64; 3]; 3],
+    links: [f64; 2],
+    leaf_start: f64,
+    leaf_count: f64,
+}
+
+/// The nodes in preorder, and the ordered points.
+#[derive(Default)]
+struct Tree {
+    nodes: Vec<Node>,
+    order: Vec<u32>,
+}
+
+/// A value for each axis.
+fn axes<T>(value: impl Fn(usize) -> T) -> [T; 3] {
+    [value(0), value(1), value(2)]
+}
+
+/// The occupied cells of a file that `judge` lets pass, by cell number: z outermost, x innermost.
+fn points(file: &[u8]) -> Vec<Point> {
+    let g = grid(file);
+    let last: BTreeMap<u64, Point> = (0..)
+        .zip(records(file))
+        .map(|(index, record)| {
+            let point = Point {
+                index,
+                place: record.cell.map(f64::from),
+                masses: record.masses.map(|mass| f64::from(f32::from_bits(mass))),
+            };
+            (cell_number(g, record.cell), point)
+        })
+        .collect();
+    last.into_values().collect()
+}
+
+impl Cells {
+    fn has(&self, point: &Point) -> bool {
+        (0..3).all(|axis| (self.low[axis]..self.high[axis]).contains(&point.place[axis]))
+    }
+
+    fn width(&self, axis: usize) -> f64 {
+        self.high[axis] - self.low[axis]
+    }
+
+    /// The widest axis, ties to x, then y.
+    fn widest(&self) -> usize {
+        let [x, y, z] = axes(|axis| self.width(axis));
+        match (x >= y && x >= z, y >= z) {
+            (true, _) => 0,
+            (_, true) => 1,
+            _ => 2,
+        }
+    }
+
+    /// Both parts of a split of the widest axis at low + width ÷ 2 rounded down.
+    fn split(&self) -> [Self; 2] {
+        let axis = self.widest();
+        let middle = self.low[axis] + (self.width(axis) / 2.0).floor();
+        let (mut left, mut right) = (*self, *self);
+        left.high[axis] = middle;
+        right.low[axis] = middle;
+        [left, right]
+    }
+
+    /// (low + high − 1)·0.5 per axis
+    fn middle(&self) -> [f64; 3] {
+        axes(|axis| (self.low[axis] + self.high[axis] - 1.0) * 0.5)
+    }
+}
+
+impl Sums {
+    /// From 0, in the order of the points.
+    fn of(points: &[&Point]) -> Self {
+        let mut sums = Self::default();
+        for point in points {
+            sums.count += 1.0;
+            for mass in 0..2 {
+                sums.masses[mass] += point.masses[mass];
+                for axis in 0..3 {
+                    sums.moments[mass][axis] += point.place[axis] * point.masses[mass];
+                }
+            }
+            for axis in 0..3 {
+                sums.plain[axis] += point.place[axis];
+            }
+        }
+        sums
+    }
+
+    /// Centres in cells; all 0 without points.
+    fn centres(&self, cells: &Cells) -> [[f64; 3]; 3] {
+        if self.count == 0.0 {
+            return [[0.0; 3]; 3];
+        }
+        let centre = |mass: usize| {
+            let sum = self.masses[mass];
+            if sum.abs() > NO_SUM {
+                self.moments[mass].map(|moment| moment / sum)
+            } else {
+                cells.middle()
+            }
+        };
+        let constant = self.plain.map(|moment| moment / self.count);
+        [centre(0), centre(1), constant]
+    }
+}
+
+impl Tree {
+    /// The box's node and all below it, for its points in the order of visiting.
+    fn build(&mut self, cells: Cells, points: &[&Point]) {
+        let place = self.nodes.len();
+        let sums = Sums::of(points);
+        self.nodes.push(Node {
+            cells,
+            centres: sums.centres(&cells),
+            sums,
+            links: [NO_LINK; 2],
+            leaf_start: 0.0,
+            leaf_count: 0.0,
+        });
+        let single = (0..3).all(|axis| cells.width(axis) == 1.0);
+        if points.is_empty() {
+            return;
+        }
+        if points.len() <= LEAF || single {
+            self.nodes[place].leaf_start = self.order.len() as f64;
+            self.nodes[place].leaf_count = points.len() as f64;
+            self.order.extend(points.iter().map(|point| point.index));
+            return;
+        }
+        self.nodes[place].links = cells.split().map(|part| self.child(part, points));
+    }
+
+    /// Builds a part of a box and gives the link to it.
+    fn child(&mut self, part: Cells, points: &[&Point]) -> f64 {
+        let place = self.nodes.len();
+        let within: Vec<&Point> = points
+            .iter()
+            .copied()
+            .filter(|point| part.has(point))
+            .collect();
+        self.build(part, &within);
+        if within.is_empty() {
+            NO_LINK
+        } else {
+            place as f64
+        }
+    }
+}
+
+/// The box's min, and a cell's edges, in metres.
+struct Metres {
+    min: [f64; 3],
+    cell: [f64; 3],
+}
+
+impl Metres {
+    fn of(file: &[u8]) -> Self {
+        let min = axes(|axis| f64::from(float(file, 32 + 4 * axis)));
+        let max = axes(|axis| f64::from(float(file, 44 + 4 * axis)));
+        let g = grid(file) as f64;
+        Self {
+            min,
+            cell: axes(|axis| (max[axis] - min[axis]) / g),
+        }
+    }
+
+    /// min + (low + high)·0.5·cell
+    fn centre(&self, cells: &Cells) -> [f64; 3] {
+        axes(|axis| self.min[axis] + (cells.low[axis] + cells.high[axis]) * 0.5 * self.cell[axis])
+    }
+
+    /// The greatest of (high − low)·0.5·cell.
+    fn half(&self, cells: &Cells) -> f64 {
+        let halves = axes(|axis| cells.width(axis) * 0.5 * self.cell[axis]);
+        halves.into_iter().fold(0.0, f64::max)
+    }
+
+    /// A centre of mass c becomes min + (c + 0.5)·cell.
+    fn centre_of_mass(&self, centre: &[f64; 3]) -> [f64; 3] {
+        axes(|axis| self.min[axis] + (centre[axis] + 0.5) * self.cell[axis])
+    }
+
+    /// A node's twenty floats in order.
+    fn floats(&self, node: &Node) -> [f64; 20] {
+        let [x, y, z] = self.centre(&node.cells);
+        let [cauchy, elliptic, constant] = node
+            .centres
+            .each_ref()
+            .map(|centre| self.centre_of_mass(centre));
+        [
+            x,
+            y,
+            z,
+            self.half(&node.cells),
+            node.sums.masses[0],
+            node.sums.masses[1],
+            node.links[0],
+            node.links[1],
+            cauchy[0],
+            cauchy[1],
+            cauchy[2],
+            node.leaf_start,
+            elliptic[0],
+            elliptic[1],
+            elliptic[2],
+            node.leaf_count,
+            constant[0],
+            constant[1],
+            constant[2],
+            node.sums.count,
+        ]
+    }
+}
+
+/// The tree's header: scale, density, volume and the box as the point file has them.
+fn header(file: &[u8], nodes: u32) -> [u32; 16] {
+    let mut words = [0; 16];
+    words[..4].copy_from_slice(&[MARK, VERSION, grid(file) as u32, count(file) as u32]);
+    words[4..7].copy_from_slice(&[24, 16, 20].map(|at| word(file, at)));
+    words[8..14].copy_from_slice(&[32, 36, 40, 44, 48, 52].map(|at| word(file, at)));
+    words[14] = nodes;
+    words
+}
+
+fn put(bytes: &mut Vec<u8>, words: &[u32]) {
+    bytes.extend(words.iter().flat_map(|word| word.to_le_bytes()));
+}
+
+/// The tree file of a file that `judge` lets pass, its length in `answer`, with its counts.
+pub(crate) fn tree(file: &[u8]) -> (Vec<u8>, Built) {
+    let points = points(file);
+    let mut tree = Tree::default();
+    let root = Cells {
+        low: [0.0; 3],
+        high: [grid(file) as f64; 3],
+    };
+    tree.build(root, &points.iter().collect::<Vec<_>>());
+    let mut bytes = Vec::with_capacity(HEADER + NODE * tree.nodes.len() + 4 * tree.order.len());
+    put(&mut bytes, &header(file, tree.nodes.len() as u32));
+    let metres = Metres::of(file);
+    for node in &tree.nodes {
+        let narrowed = metres.floats(node).map(|float| (float as f32).to_bits());
+        put(&mut bytes, &narrowed);
+    }
+    put(&mut bytes, &tree.order);
+    let built = Built {
+        answer: bytes.len() as u64,
+        nodes: tree.nodes.len() as u64,
+        order: tree.order.len() as u64,
+    };
+    (bytes, built)
+}
+
+/// Build: 1 to 7, 8, 9; then the tree stands in `out`.
+pub(crate) fn build(file: &[u8], scratch_words: u64, out: &mut [u8]) -> Built {
+    if let Some(cause) = judge(file) {
+        return Built::refused(cause);
+    }
+    if scratch_words < grid(file).pow(3) {
+        return Built::refused(8);
+    }
+    let (tree, built) = tree(file);
+    if out.len() < tree.len() {
+        return Built::refused(9);
+    }
+    out[..tree.len()].copy_from_slice(&tree);
+    built
+}
+
+#[cfg(test)]
+mod tests {
+    use super::*;
+    use crate::points::{point_file, Header, Record};
+
+    fn record(x: u16, y: u16, z: u16) -> Record {
+        Record {
+            cell: [x, y, z],
+            cauchy_mass: 3.0,
+            elliptic_mass: 0.0,
+        }
+    }
+
+    fn built(answer: u64, nodes: u64, order: u64) -> Built {
+        Built {
+            answer,
+            nodes,
+            order,
+        }
+    }
+
+    /// The float of a node.
+    fn node_float(tree: &[u8], node: usize, at: usize) -> f32 {
+        float(tree, HEADER + NODE * node + at)
+    }
+
+    /// The tree's words after `nodes` nodes.
+    fn order(tree: &[u8], nodes: usize) -> Vec<u32> {
+        (HEADER + NODE * nodes..tree.len())
+            .step_by(4)
+            .map(|at| word(tree, at))
+            .collect()
+    }
+
+    /// g 1, box 0 to 2, no record; then one with masses 3 and 0.
+    #[test]
+    fn models_of_one_cell() {
+        let (tree_of_none, counts) = tree(&point_file(Header::cube(1, 2.0), &[]));
+        assert_eq!(counts, built(144, 1, 0));
+        let floats: Vec<f32> = (0..20)
+            .map(|i| node_float(&tree_of_none, 0, 4 * i))
+            .collect();
+        let (one, none) = (1.0, 0.0);
+        assert_eq!(
+            floats,
+            [
+                one, one, one, one, none, none, -1.0, -1.0, one, one, one, none, one, one, one,
+                none, one, one, one, none
+            ]
+        );
+        let (tree, counts) = tree(&point_file(Header::cube(1, 2.0), &[record(0, 0, 0)]));
+        assert_eq!(counts, built(148, 1, 1));
+        let floats: Vec<f32> = (0..20).map(|i| node_float(&tree, 0, 4 * i)).collect();
+        assert_eq!(
+            floats,
+            [
+                one, one, one, one, 3.0, none, -1.0, -1.0, one, one, one, none, one, one, one, one,
+                one, one, one, one
+            ]
+        );
+        assert_eq!(order(&tree, 1), [0]);
+    }
+
+    #[test]
+    fn models_of_more_cells() {
+        let all: Vec<Record> = (0..8).map(|i| record(i & 1, i >> 1 & 1, i >> 2)).collect();
+        let (_, counts) = tree(&point_file(Header::cube(2, 2.0), &all));
+        assert_eq!(counts, built(176, 1, 8));
+        let plane: Vec<Record> = (0..9).map(|i| record(i % 3, i / 3, 0)).collect();
+        let (plane, counts) = tree(&point_file(Header::cube(3, 3.0), &plane));
+        assert_eq!(counts, built(340, 3, 9));
+        assert_eq!(order(&plane, 3), [0, 3, 6, 1, 2, 4, 5, 7, 8]);
+        assert_eq!([24, 28].map(|at| node_float(&plane, 0, at)), [1.0, 2.0]);
+        assert_eq!(
+            [0, 1, 2].map(|node| node_float(&plane, node, 44)),
+            [0.0, 0.0, 3.0]
+        );
+        assert_eq!(
+            [0, 1, 2].map(|node| node_float(&plane, node, 60)),
+            [0.0, 3.0, 6.0]
+        );
+        let corner = [all, vec![record(0, 3, 0)]].concat();
+        let (corner, counts) = tree(&point_file(Header::cube(4, 4.0), &corner));
+        assert_eq!(counts, built(500, 5, 9));
+        assert_eq!([24, 28].map(|at| node_float(&corner, 0, at)), [1.0, -1.0]);
+        assert_eq!([24, 28].map(|at| node_float(&corner, 1, at)), [2.0, 3.0]);
+    }
+
+    /// Header n counts records, the order cells; an order word is the later record's index; scale stands before density.
+    #[test]
+    fn repeated_cells_and_header() {
+        let header = Header {
+            constant_density: 5.0,
+            cell_volume: 6.0,
+            cauchy_scale: -0.0,
+            ..Header::cube(2, 2.0)
+        };
+        let (tree, counts) = tree(&point_file(header, &[record(1, 0, 0), record(1, 0, 0)]));
+        assert_eq!(counts, built(148, 1, 1));
+        let words: Vec<u32> = (0..16).map(|i| word(&tree, 4 * i)).collect();
+        assert_eq!(words[..4], [MARK, VERSION, 2, 2]);
+        assert_eq!(
+            words[4..8],
+            [0x8000_0000, 5f32.to_bits(), 6f32.to_bits(), 0]
+        );
+        assert_eq!(words[8..11], [0; 3]);
+        assert_eq!(words[11..14], [2f32.to_bits(); 3]);
+        assert_eq!(words[14..], [1, 0]);
+        assert_eq!(order(&tree, 1), [1]);
+    }
+
+    /// A sum of 1e-30 itself has no centre of its own, the next number has one.
+    #[test]
+    fn sums_near_nothing() {
+        let cells = Cells {
+            low: [0.0, 2.0, 4.0],
+            high: [1.0, 5.0, 8.0],
+        };
+        let sums = |sum: f64| Sums {
+            masses: [sum, -sum],
+            moments: [[2.0 * sum; 3], [-4.0 * sum; 3]],
+            plain: [6.0; 3],
+            count: 3.0,
+        };
+        let middle = [0.0, 3.0, 5.5];
+        assert_eq!(sums(1e-30).centres(&cells), [middle, middle, [2.0; 3]]);
+        let above = sums(f64::from_bits(1e-30f64.to_bits() + 1)).centres(&cells);
+        assert_eq!(above, [[2.0; 3], [4.0; 3], [2.0; 3]]);
+        assert_eq!(sums(0.0).centres(&cells), [middle, middle, [2.0; 3]]);
+    }
+
+    #[test]
+    fn splits() {
+        let split = |widths: [f64; 3]| {
+            let cells = Cells {
+                low: [10.0; 3],
+                high: widths.map(|width| 10.0 + width),
+            };
+            let [left, right] = cells.split();
+            let axis = cells.widest();
+            assert_eq!(left.high[axis], right.low[axis]);
+            (axis, left.width(axis), right.width(axis))
+        };
+        assert_eq!(split([3.0, 3.0, 3.0]), (0, 1.0, 2.0));
+        assert_eq!(split([2.0, 3.0, 3.0]), (1, 1.0, 2.0));
+        assert_eq!(split([3.0, 2.0, 3.0]), (0, 1.0, 2.0));
+        assert_eq!(split([4.0, 4.0, 5.0]), (2, 2.0, 3.0));
+        assert_eq!(split([1.0, 1.0, 2.0]), (2, 1.0, 1.0));
+    }
+
+    #[test]
+    fn build_refuses_in_order() {
+        let file = point_file(Header::cube(2, 2.0), &[record(1, 0, 0)]);
+        let answer = |file: &[u8], scratch, out: usize| {
+            let mut out = vec![0xa5; out];
+            let built = build(file, scratch, &mut out);
+            let kept = out
+                .iter()
+                .skip(built.answer as usize)
+                .all(|&byte| byte == 0xa5);
+            assert!(kept && (built.answer >= 64 || out.iter().all(|&byte| byte == 0xa5)));
+            built
+        };
+        assert_eq!(answer(&file, 8, 148), built(148, 1, 1));
+        assert_eq!(answer(&file, 9, 151), built(148, 1, 1));
+        assert_eq!(answer(&file, 8, 147), built(9, 0, 0));
+        assert_eq!(answer(&file, 7, 147), built(8, 0, 0));
+        assert_eq!(answer(&file[..79], 0, 0), built(4, 0, 0));
+    }
+}
