@@ -22,6 +22,38 @@ uint64_t mascon_narrow(double x);
 uint64_t mascon_open(const uint8_t *file, size_t file_length, uint32_t *scratch, size_t scratch_length,
                      uint8_t *out, size_t out_length, uint32_t *journal, size_t journal_length);
 
+/* Puts masses into a cell of a file in working form, over its record or as a new one, and enters that in the journal. file is the whole
+   buffer that open wrote into, journal the one that it set.
+   Answers the file's length afterwards, 64 + 16 per occupied cell, or a number below 64, the cause of a refusal, in this order:
+   1 to 7 of the file as in mascon_open, 10 not in working form, 11 no journal word, a count above 2^24 or its entries missing,
+   6 a coordinate at or above grid, 7 a mass not finite, 13 no three words for an entry, or 2^24 entries, 14 no room for a new record.
+   A new record needs 16 bytes past the file's length, a put over a record none; e entries take 1 + 3 * e words.
+   A refusal changes no byte of file and journal. Else the cell's record has these masses, a new one stands in its place with the later
+   ones 16 bytes further up, and the count at byte 12 is theirs; journal[0] is one more, and the entry's three words follow the others:
+   kind << 30 | cell number (kind 1 into an empty cell, 2 over a record), then the masses that the cell held before, 0 and 0 for kind 1.
+   All else is as it was. The two do not overlap. */
+uint64_t mascon_put(uint8_t *file, size_t file_length, uint32_t *journal, size_t journal_length,
+                    uint32_t x, uint32_t y, uint32_t z, float cauchy, float elliptic);
+
+/* Removes the record of a cell from a file in working form and enters that in the journal; both as in mascon_put.
+   Answers the file's length afterwards, or a number below 64, the cause of a refusal, in this order:
+   1 to 7, 10, 11 as in mascon_put, 6 a coordinate at or above grid, 12 the cell is empty, 13 no three words for an entry, or 2^24 entries.
+   It needs no spare byte. A refusal changes no byte of file and journal. Else the later records stand 16 bytes further down, the 16 bytes
+   freed are 0, and the count is one less; journal[0] is one more, and the entry is of kind 3 with the masses that the cell held.
+   All else is as it was. The two do not overlap. */
+uint64_t mascon_remove(uint8_t *file, size_t file_length, uint32_t *journal, size_t journal_length,
+                       uint32_t x, uint32_t y, uint32_t z);
+
+/* Undoes the last put or remove that the journal has: the cell holds again what it held before. Both as in mascon_put.
+   Answers the file's length afterwards, or a number below 64, the cause of a refusal, in this order:
+   1 to 7, 10, 11 as in mascon_put, 15 no entry, 16 a last entry that is malformed or does not fit the cell, 14 no room for the record.
+   After an open, with both buffers changed by these calls alone and lent whole, 15 is its only refusal (a removed record has left the room
+   that it needs), and with no entry left the file is as open wrote it, up to its length.
+   A refusal changes no byte of file and journal. Else the record is gone, back, or has its masses again, the later ones and the count as in
+   mascon_put and mascon_remove; journal[0] is one less, and the entry's three words are 0. All else is as it was.
+   The two do not overlap. */
+uint64_t mascon_undo(uint8_t *file, size_t file_length, uint32_t *journal, size_t journal_length);
+
 /* What build answers: the length written or a refusal's cause, then how many nodes and order words the tree has, 0 at a refusal. */
 typedef struct {
     uint64_t answer, nodes, order;

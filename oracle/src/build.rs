@@ -5,11 +5,11 @@ pub(crate) mod cases;
 pub(crate) mod plain;
 
 use crate::ffi::{self, Built};
-use crate::lent::Lent;
+use crate::lent::Buffers;
 use crate::open::cases::{Case, Kind};
-use crate::open::{out_byte, scratch_word};
+use crate::open::{lay, scratch_word};
 use crate::original;
-use crate::points::{point_file, Header, Record};
+use crate::points::{point_file, record, Header, Record};
 use crate::report::Report;
 use crate::rng::Rng;
 use crate::rule;
@@ -24,41 +24,26 @@ const SEED: u64 = 101;
 
 /// One call's buffers, and what the output shall hold afterwards.
 struct Desk {
-    file: Lent<u8>,
-    scratch: Lent<u32>,
-    out: Lent<u8>,
+    lent: Buffers,
     want_out: Vec<u8>,
 }
 
 impl Desk {
     fn new() -> Self {
         Self {
-            file: Lent::new(),
-            scratch: Lent::new(),
-            out: Lent::new(),
+            lent: Buffers::new(),
             want_out: Vec::new(),
         }
     }
 
-    fn lay(&mut self, case: &Case) {
-        let (junk, shift) = (case.junk, case.junk as usize % 16);
-        self.file.fill(shift, case.file.iter().copied());
-        self.scratch
-            .fill(0, (0..case.scratch).map(|at| scratch_word(junk, at)));
-        self.out
-            .fill(shift / 2, (0..case.out).map(|at| out_byte(junk, at)));
-        self.want_out.clear();
-        self.want_out.extend_from_slice(self.out.slice());
-    }
-
     /// Makes the call and says what differs from the rule, or in the rule from the original, if anything does.
     fn differs(&mut self, build: Build, case: &Case) -> Option<String> {
-        self.lay(case);
+        lay(case, &mut self.lent, &mut self.want_out);
         let want = rule::tree::build(&case.file, case.scratch as u64, &mut self.want_out);
         let got = build(
-            self.file.slice(),
-            self.scratch.slice_mut(),
-            self.out.slice_mut(),
+            self.lent.file.slice(),
+            self.lent.scratch.slice_mut(),
+            self.lent.out.slice_mut(),
         );
         if got != want {
             return Some(format!(
@@ -67,33 +52,13 @@ impl Desk {
                 in_words(want)
             ));
         }
-        first("output byte", self.out.slice(), &self.want_out)
-            .or_else(|| first("byte of the file lent", self.file.slice(), &case.file))
-            .or_else(|| self.broken())
-            .or_else(|| self.scratched(case.junk, want.answer))
+        let before = |at| scratch_word(case.junk, at);
+        first("output byte", self.lent.out.slice(), &self.want_out)
+            .or_else(|| first("byte of the file lent", self.lent.file.slice(), &case.file))
+            .or_else(|| self.lent.broken())
+            .or_else(|| self.lent.scratched(want.answer, before))
             .or_else(|| unlike_the_original(&case.file, want, &self.want_out))
             .map(|what| format!("answer {}, {what}", in_words(want)))
-    }
-
-    /// A buffer with a changed canary.
-    fn broken(&self) -> Option<String> {
-        let buffers = [
-            ("file", self.file.intact()),
-            ("scratch", self.scratch.intact()),
-            ("output", self.out.intact()),
-        ];
-        let broken = buffers.iter().find(|(_, intact)| !intact);
-        broken.map(|(name, _)| format!("a write outside the {name}"))
-    }
-
-    /// A word of scratch that changed though the call did not pass 8.
-    fn scratched(&self, junk: u32, answer: u64) -> Option<String> {
-        let changed = |(at, &word): (usize, &u32)| word != scratch_word(junk, at);
-        let at = match answer {
-            1..=8 => self.scratch.slice().iter().enumerate().position(changed)?,
-            _ => return None,
-        };
-        Some(format!("scratch word {at} changed"))
     }
 }
 
@@ -146,22 +111,10 @@ fn described(case: &Case) -> String {
 
 /// Compares the cases of a kind, the work shared out by their numbers.
 fn compare(build: Build, seed: u64, kind: &Kind, cases: u64) -> Search {
-    shared(cases, |numbers| {
-        let (mut desk, mut search) = (Desk::new(), Search::default());
-        for number in numbers {
-            let case = kind.case(seed, number);
-            visit(&mut search, &mut desk, build, kind.name, number, &case);
-        }
-        search
+    shared(cases, Desk::new, |search, desk, number| {
+        let case = kind.case(seed, number);
+        visit(search, desk, build, kind.name, number, &case);
     })
-}
-
-pub(crate) fn record(cell: [u16; 3], number: u32) -> Record {
-    Record {
-        cell,
-        cauchy_mass: number as f32,
-        elliptic_mass: -0.5 * number as f32,
-    }
 }
 
 /// The file over a cube of `g` metres with a record for each of the cell numbers, in their order.
@@ -245,12 +198,8 @@ fn compare_fixed(build: Build) -> Search {
         let mut out = vec![0; case.out];
         let by_rule = rule::tree::build(&case.file, case.scratch as u64, &mut out);
         if answer.is_some_and(|answer| answer != by_rule) {
-            search.mismatches += 1;
-            search.least = Some((
-                0,
-                number,
-                format!("{name}: rule answers {}", in_words(by_rule)),
-            ));
+            let by_rule = in_words(by_rule);
+            search.note_first(number, format!("{name}: rule answers {by_rule}"));
         }
     }
     search
@@ -269,6 +218,7 @@ pub(crate) fn check(report: &mut Report) {
 mod tests {
     use super::plain::{plain_build, Fault, FAULTS};
     use super::*;
+    use crate::open::cases::DAMAGE_ANSWERS;
     use std::collections::{BTreeMap, BTreeSet};
 
     /// Cases of each kind that a test looks at.
@@ -322,12 +272,9 @@ mod tests {
             let seen = answers(name);
             assert!(seen.keys().eq(wanted), "{name}: {seen:?}");
         };
-        only("header floats", &[5, 64]);
-        only("header words", &[2, 3, 4, 6, 8, 64]);
-        only("file lengths", &[1, 4, 64]);
-        only("coordinates", &[6, 64]);
-        only("masses", &[7, 64]);
-        only("6 and 7 together", &[6, 7, 64]);
+        for (name, wanted) in DAMAGE_ANSWERS {
+            only(name, wanted);
+        }
         only("scratch lengths", &[8, 9, 64]);
         only("output lengths", &[9, 64]);
         only("several causes", &[1, 2, 3, 4, 5, 6, 7, 8, 9, 64]);

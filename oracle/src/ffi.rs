@@ -15,6 +15,30 @@ unsafe extern "C" {
         journal_len: usize,
     ) -> u64;
 
+    fn mascon_put(
+        file: *mut u8,
+        file_len: usize,
+        journal: *mut u32,
+        journal_len: usize,
+        x: u32,
+        y: u32,
+        z: u32,
+        cauchy: f32,
+        elliptic: f32,
+    ) -> u64;
+
+    fn mascon_remove(
+        file: *mut u8,
+        file_len: usize,
+        journal: *mut u32,
+        journal_len: usize,
+        x: u32,
+        y: u32,
+        z: u32,
+    ) -> u64;
+
+    fn mascon_undo(file: *mut u8, file_len: usize, journal: *mut u32, journal_len: usize) -> u64;
+
     fn mascon_build(
         file: *const u8,
         file_len: usize,
@@ -61,6 +85,56 @@ pub(crate) fn open(file: &[u8], scratch: &mut [u32], out: &mut [u8], journal: &m
             scratch.len(),
             out.as_mut_ptr(),
             out.len(),
+            journal.as_mut_ptr(),
+            journal.len(),
+        )
+    }
+}
+
+/// Puts a record into a cell: the file's new length, or the number of a cause. Masses are float bits.
+pub(crate) fn put(file: &mut [u8], journal: &mut [u32], cell: [u32; 3], masses: [u32; 2]) -> u64 {
+    let [x, y, z] = cell;
+    let [cauchy, elliptic] = masses.map(f32::from_bits);
+    // SAFETY: as in `open`; both slices are lent to be changed.
+    unsafe {
+        mascon_put(
+            file.as_mut_ptr(),
+            file.len(),
+            journal.as_mut_ptr(),
+            journal.len(),
+            x,
+            y,
+            z,
+            cauchy,
+            elliptic,
+        )
+    }
+}
+
+/// Removes a cell's record: the file's new length, or the number of a cause.
+pub(crate) fn remove(file: &mut [u8], journal: &mut [u32], cell: [u32; 3]) -> u64 {
+    let [x, y, z] = cell;
+    // SAFETY: as in `put`.
+    unsafe {
+        mascon_remove(
+            file.as_mut_ptr(),
+            file.len(),
+            journal.as_mut_ptr(),
+            journal.len(),
+            x,
+            y,
+            z,
+        )
+    }
+}
+
+/// Takes back the last edit: the file's new length, or the number of a cause.
+pub(crate) fn undo(file: &mut [u8], journal: &mut [u32]) -> u64 {
+    // SAFETY: as in `put`.
+    unsafe {
+        mascon_undo(
+            file.as_mut_ptr(),
+            file.len(),
             journal.as_mut_ptr(),
             journal.len(),
         )

@@ -70,6 +70,46 @@ impl<T: Element> Lent<T> {
         let stands = |at: usize| self.all[at] == canary(at);
         (0..self.start).all(stands) && (end..end + GUARD).all(stands)
     }
+
+    /// A changed canary, told with the buffer's name.
+    pub(crate) fn broken(&self, name: &str) -> Option<String> {
+        (!self.intact()).then(|| format!("a write outside the {name}"))
+    }
+}
+
+/// What open and build are both lent.
+pub(crate) struct Buffers {
+    pub(crate) file: Lent<u8>,
+    pub(crate) scratch: Lent<u32>,
+    pub(crate) out: Lent<u8>,
+}
+
+impl Buffers {
+    pub(crate) fn new() -> Self {
+        Self {
+            file: Lent::new(),
+            scratch: Lent::new(),
+            out: Lent::new(),
+        }
+    }
+
+    /// A buffer with a changed canary.
+    pub(crate) fn broken(&self) -> Option<String> {
+        self.file
+            .broken("file")
+            .or_else(|| self.scratch.broken("scratch"))
+            .or_else(|| self.out.broken("output"))
+    }
+
+    /// A word of scratch that is not as it was `before`, though the call did not pass 8.
+    pub(crate) fn scratched(&self, answer: u64, before: impl Fn(usize) -> u32) -> Option<String> {
+        let changed = |(at, &word): (usize, &u32)| word != before(at);
+        let at = match answer {
+            1..=8 => self.scratch.slice().iter().enumerate().position(changed)?,
+            _ => return None,
+        };
+        Some(format!("scratch word {at} changed"))
+    }
 }
 
 #[cfg(test)]

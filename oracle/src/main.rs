@@ -4,6 +4,7 @@
 
 mod bench;
 mod build;
+mod edit;
 #[allow(unsafe_code)]
 mod ffi;
 mod lent;
@@ -13,6 +14,7 @@ mod narrow;
 mod open;
 mod original;
 mod points;
+mod register;
 mod report;
 mod rng;
 mod rule;
@@ -25,13 +27,13 @@ use std::env;
 use std::path::Path;
 use std::process::ExitCode;
 
-const USAGE: &str = "usage: oracle check [all|narrow|open|build|stored|treeinfo|original]
-       oracle store narrow|open|build FILE
-       oracle verify-stored [narrow|open|build] FILE
-       oracle bench open|build";
+const USAGE: &str = "usage: oracle check [all|narrow|open|build|edit|stored|treeinfo|original]
+       oracle store narrow|open|build|edit FILE
+       oracle verify-stored [narrow|open|build|edit] FILE
+       oracle bench open|build|edit";
 
-const CHECKS: [&str; 7] = [
-    "all", "narrow", "open", "build", "stored", "treeinfo", "original",
+const CHECKS: [&str; 8] = [
+    "all", "narrow", "open", "build", "edit", "stored", "treeinfo", "original",
 ];
 
 fn main() -> ExitCode {
@@ -45,6 +47,7 @@ fn main() -> ExitCode {
         ["verify-stored", kind, file] => told(store::verify(kind, Path::new(file))),
         ["bench", "open"] => told(bench::open()),
         ["bench", "build"] => told(bench::build::build()),
+        ["bench", "edit"] => told(bench::edit::edit()),
         _ => {
             eprintln!("{USAGE}");
             ExitCode::from(2)
@@ -87,6 +90,9 @@ fn check(what: &str) -> ExitCode {
     }
     if wanted("build") {
         build::check(&mut report);
+    }
+    if wanted("edit") {
+        edit::check(&mut report);
     }
     if wanted("stored") {
         store::check(&mut report);

@@ -18,13 +18,14 @@ const KERNEL: [f64; 5] = [1.0, 2.0, 3.0, 0.5, 7.0];
 /// Says what is wrong, or nothing.
 type Model = (&'static str, fn() -> Result<(), String>);
 
-const MODELS: [Model; 12] = [
+const MODELS: [Model; 13] = [
     ("no record", no_record),
     ("one record", one_record),
     ("all cells of grid 2", full_grid_2),
     ("a full plane of grid 3", plane_of_grid_3),
     ("a corner of grid 4", corner_of_grid_4),
     ("a shared slot", shared_slot),
+    ("two edits undone", two_edits_undone),
     ("what the original accepts and the library refuses", laxer),
     ("a ray", ray),
     ("near crossings", near_crossings),
@@ -168,6 +169,32 @@ fn shared_slot() -> Result<(), String> {
         [32, 36, 40].map(|at| float_at(&tree, 64 + at)),
         [192.5, 5.5, 0.5],
     )
+}
+
+/// g 2 with (1, 0, 0), 16 bytes to spare, 7 journal words: put (0, 0, 0), remove (1, 0, 0), by the library.
+fn two_edits_undone() -> Result<(), String> {
+    let opened = point_file(Header::cube(2, 2.0), &[record(1, 0, 0)]);
+    let (mut file, mut journal) = (vec![0; opened.len() + 16], [0xa5a5_a5a5; 7]);
+    let answer = ffi::open(&opened, &mut [0; 8], &mut file, &mut journal);
+    same("open", answer, 80)?;
+    let start = built(&file);
+    let masses = [3.0f32, 4.0].map(f32::to_bits);
+    same("put", ffi::put(&mut file, &mut journal, [0; 3], masses), 96)?;
+    let put = file.clone();
+    same("record put", &file[64..72], &[0; 8])?;
+    same("record after it", &file[80..], &opened[64..])?;
+    let removed = ffi::remove(&mut file, &mut journal, [1, 0, 0]);
+    same("remove", removed, 80)?;
+    same("bytes freed", &file[80..], &[0; 16])?;
+    let heads = [2, 0x4000_0000, 0, 0, 0xc000_0001, 0x3f80_0000, 0x4000_0000];
+    same("journal", journal, heads)?;
+    same("first undo", ffi::undo(&mut file, &mut journal), 96)?;
+    same("after the first undo", &file, &put)?;
+    same("second undo", ffi::undo(&mut file, &mut journal), 80)?;
+    same("after the second undo", &file[..80], &opened[..])?;
+    same("journal undone", journal, [0; 7])?;
+    same("tree", built(&file), start)?;
+    same("third undo", ffi::undo(&mut file, &mut journal), 15)
 }
 
 /// The library's answers to a file, of open and of build, with room for all they could want at a small grid.

@@ -31,6 +31,15 @@ impl Header {
     }
 }
 
+/// A record whose masses tell its number.
+pub(crate) fn record(cell: [u16; 3], number: u32) -> Record {
+    Record {
+        cell,
+        cauchy_mass: number as f32,
+        elliptic_mass: -0.5 * number as f32,
+    }
+}
+
 /// A point file; the fields that are not read are 0.
 pub(crate) fn point_file(header: Header, records: &[Record]) -> Vec<u8> {
     let mut bytes = Vec::with_capacity(64 + 16 * records.len());

@@ -11,7 +11,7 @@ const THREADS: u64 = 2;
 pub(crate) struct Search {
     pub(crate) cases: u64,
     pub(crate) mismatches: u64,
-    pub(crate) least: Option<(usize, u64, String)>,
+    least: Option<(usize, u64, String)>,
 }
 
 impl Search {
@@ -27,6 +27,12 @@ impl Search {
                 .chain([(size, number, what)])
                 .min();
         }
+    }
+
+    /// The rule itself is wrong about a case that is noted already: told before all others.
+    pub(crate) fn note_first(&mut self, number: u64, what: String) {
+        self.mismatches += 1;
+        self.least = Some((0, number, what));
     }
 
     fn and(self, other: Self) -> Self {
@@ -46,15 +52,23 @@ impl Search {
     }
 }
 
-/// Shares out the numbers below `cases`; `share` looks at those that it is given.
-pub(crate) fn shared(
+/// Shares out the numbers below `cases`; `visit` looks at each, on a desk that each thread has to itself.
+pub(crate) fn shared<Desk>(
     cases: u64,
-    share: impl Fn(&mut dyn Iterator<Item = u64>) -> Search + Sync,
+    desk: fn() -> Desk,
+    visit: impl Fn(&mut Search, &mut Desk, u64) + Sync,
 ) -> Search {
-    let share = &share;
+    let visit = &visit;
+    let share = move |start| {
+        let (mut desk, mut search) = (desk(), Search::default());
+        for number in (start..cases).step_by(THREADS as usize) {
+            visit(&mut search, &mut desk, number);
+        }
+        search
+    };
     thread::scope(|scope| {
         let shares: Vec<_> = (0..THREADS)
-            .map(|start| scope.spawn(move || share(&mut (start..cases).step_by(THREADS as usize))))
+            .map(|start| scope.spawn(move || share(start)))
             .collect();
         let searches = shares
             .into_iter()

@@ -2,8 +2,11 @@
 //!
 //! `narrow.bin`: for each case 8 bytes of binary64 pattern and 4 bytes of the binary32 pattern
 //! that Rust gives, little endian; a NaN gives 0x7fc00000. `open.bin`: see `store/open.rs`. `build.bin`: see `store/build.rs`.
+//! `edit.bin`: see `store/edit.rs`.
 
+mod blocks;
 mod build;
+mod edit;
 mod open;
 
 use crate::narrow;
@@ -93,6 +96,7 @@ fn bytes_of(kind: &str) -> Result<Vec<u8>, String> {
         "narrow" => Ok(narrow_bytes()),
         "open" => Ok(open::bytes()),
         "build" => Ok(build::bytes()),
+        "edit" => Ok(edit::bytes()),
         _ => Err(format!("no stored answers of the kind {kind:?}")),
     }
 }
@@ -133,6 +137,7 @@ pub(crate) fn check(report: &mut Report) {
     check_file(report, "narrow.bin", replay_narrow);
     check_file(report, "open.bin", open::replay);
     check_file(report, "build.bin", build::replay);
+    check_file(report, "edit.bin", edit::replay);
 }
 
 fn check_file(report: &mut Report, name: &str, replay: fn(&[u8]) -> Found) {
@@ -186,6 +191,7 @@ mod tests {
         verify("narrow", &folder().join("narrow.bin")).unwrap();
         verify("open", &folder().join("open.bin")).unwrap();
         verify("build", &folder().join("build.bin")).unwrap();
+        verify("edit", &folder().join("edit.bin")).unwrap();
     }
 
     /// Every kind of case is well represented.

@@ -1,8 +1,8 @@
 //! The program `treeinfo`: the line that it prints about a file on its standard input, against the rule.
 
 use crate::build::cases::KINDS;
-use crate::build::{of_cells, record};
-use crate::points::{point_file, Header, Record};
+use crate::build::of_cells;
+use crate::points::{point_file, record, Header, Record};
 use crate::report::{Found, Report};
 use crate::rule;
 use crate::search::Search;

@@ -1,6 +1,6 @@
 // Patterns read as floats, and which of them are finite.
 ghost use mathlib.Core.Path.{_≡_};
-ghost use lib.Ieee.{binary32, binary64, ofBits, nanBits};
+ghost use lib.Ieee.{binary32, binary64, ofBits, toBits, nanBits};
 ghost use lib.Ieee.Scale.{finite};
 
 // Whether a binary32's pattern is a number's: its exponent field is not all ones.
@@ -59,4 +59,14 @@ pub fn widen(n: u32) -> f64
         return 0.0 / 0.0;
     }
     f32::from_bits(n) as f64
+}
+
+// The pattern of a binary32. A NaN gives 0x7fc00000.
+pub fn f32_to_bits(x: f32) -> u32
+    ensures { λ r. ⌜ r ≡ toBits binary32 x ⌝ }
+{
+    if x != x {
+        return 0x7fc0_0000;
+    }
+    f32::to_bits(x)
 }

@@ -5,7 +5,6 @@ use mathlib.Core.List.{List, [], _∷_, _++_}
 use lib.Dec.{T, eqb}
 use lib.ListN.{length, replicate}
 use lib.Ieee.{ofBits, toBits, ofInt, lt, neg, add, sub, mul, div}
-use lib.Ieee.Scale as ieee
 use Rattle.float.specs.Narrow.{narrow, narrowFinite, narrow64}
 use Rattle.rym1.specs.Bytes.{word, le, splice}
 use Rattle.rym1.specs.Causes.{Outcome, when, first, outcome, refuse}
@@ -17,7 +16,14 @@ use Rattle.rtm1.specs.Visit.{run, moved, shifted, total}
 use Rattle.rtm1.specs.Tree.{kindOf, grow, nodeCount, order, occupied}
 use Rattle.rtm1.specs.Node.{centre, constantCentre, least, cellSize, centreOn, centreOf, halfOn, halfOf, metricOn, metricCom, nodeFloats, floatBytes, floatsBytes, nodesBytes}
 use Rattle.rtm1.specs.Build.{Output, wordsBytes, headerWords, treeBytes, treeLength, output, buildCause, build}
-use Rattle.models.specs.Starred.{Row, narrows, builds, table}
+use Rattle.rym1.specs.File.{pointBytes, working, workCause}
+use Rattle.rym1.specs.Cells.{cellPoint}
+use Rattle.rym1.specs.Open.{counted, both}
+use Rattle.rym1.specs.Journal.{top, entries, most, entryAt, journalCause, pushCause, entryOf, lastEntry, entryWords, pushed, popped}
+use Rattle.rym1.specs.Edits as edit
+use Rattle.register.specs.Register as reg
+use Rattle.register.specs.Demand.{act, told, left, workingFile}
+use Rattle.models.specs.Starred.{Row, narrows, builds, edits, table}
 
 unfoldable pub same : List ℕ → List ℕ → Bool
 same [] [] = true
@@ -34,11 +40,16 @@ unfoldable pub holds : Row → Bool
 holds (narrows b n) = eqb (narrow64 b) n
 holds (builds f words n nodes order t) =
     gives (build (wordsBytes f) words (replicate (length (wordsBytes t) + 3) 170)) n nodes order (wordsBytes t ++ replicate 3 170)
+-- the calls' own outcomes, and the register's answers and file
+holds (edits f j ks ns f′ j′) =
+    let s = both f j in
+    let r = reg.start f (length f) (length j) in
+    same (told s ks) ns && (same (left s ks .file) f′ && (same (left s ks .journal) j′ && (same (reg.answers r ks) ns && same (reg.fileOf (reg.after r ks)) (workingFile f′))))
 
 unfoldable pub all : List Row → Bool
 all [] = true
 all (r ∷ rs) = holds r && all rs
 
 pub starred : T (all table)
-unfolding table same gives holds all narrow narrowFinite word le splice when first outcome refuse grid count density volume scale boxMin boxMax pointAt pointsAt points size cell cellOf cube finite allFinite headerFloats below placeCause massCause pointCause pointsCause headerCause fileCause massesOf named later lookFrom look widest run moved shifted total kindOf grow nodeCount order occupied centre constantCentre least cellSize centreOn centreOf halfOn halfOf metricOn metricCom nodeFloats floatBytes floatsBytes nodesBytes wordsBytes headerWords treeBytes treeLength output buildCause build ofBits toBits ofInt lt neg add sub mul div
+unfolding table same gives holds all narrow narrowFinite word le splice when first outcome refuse grid count density volume scale boxMin boxMax pointAt pointsAt points size cell cellOf cube finite allFinite headerFloats below placeCause massCause pointCause pointsCause headerCause fileCause massesOf named later lookFrom look widest run moved shifted total kindOf grow nodeCount order occupied centre constantCentre least cellSize centreOn centreOf halfOn halfOf metricOn metricCom nodeFloats floatBytes floatsBytes nodesBytes top entries most entryAt journalCause pushCause entryOf lastEntry entryWords pushed popped pointBytes working workCause cellPoint counted both edit.lower edit.laterBytes edit.inserted edit.removed edit.changed edit.change edit.buffersCause edit.isVacant edit.roomCause edit.putWords edit.putCause edit.edited edit.put edit.removeWords edit.removeCause edit.remove edit.against edit.entryCause edit.before edit.undoCause edit.undo reg.cellAt reg.update reg.replayed reg.start reg.one reg.rank reg.population reg.bytes reg.each reg.recordBytes reg.allBytes reg.headerOf reg.fileOf reg.inGrid reg.isMass reg.isEmpty reg.noEntry reg.unless reg.accept reg.become reg.pushed reg.popped reg.step reg.answers reg.after act told left workingFile wordsBytes headerWords treeBytes treeLength output buildCause build ofBits toBits ofInt lt neg add sub mul div
 starred = tt

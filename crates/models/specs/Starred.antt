@@ -1,12 +1,37 @@
--- The starred models of 01 that concern narrowing, trees and refusals, as one table. Files stand as words, the trees whole, as the original writes them.
+-- The starred models of 01 that concern narrowing, trees, refusals and edits, as one table. For trees the files stand as words, the trees whole, as the original
+-- writes them; for edits as bytes.
 use Prim.Native.Nat.{ℕ}
-use mathlib.Core.List.{List, [], _∷_}
+use mathlib.Core.List.{List, [], _∷_, _++_}
+use Rattle.register.specs.Register.{Call, put, remove, undo}
 
 pub data Row : Type 0 where
   -- a binary64 pattern, and the binary32 pattern that it narrows to
   narrows : ℕ → ℕ → Row
   -- a point file and how many words of scratch are lent; the answer, node and order counts, and the tree
   builds : List ℕ → ℕ → ℕ → ℕ → ℕ → List ℕ → Row
+  -- a buffer of bytes with an opened file, and a journal; calls; the answers, and what is left in the two
+  edits : List ℕ → List ℕ → List Call → List ℕ → List ℕ → List ℕ → Row
+
+-- the bytes of a header at g 2, with the count's lowest byte
+abbrev headed : ℕ → List ℕ
+headed n =
+    (0x52 ∷ 0x59 ∷ 0x4d ∷ 0x31 ∷ 1 ∷ 0 ∷ 0 ∷ 0 ∷ 2 ∷ 0 ∷ 0 ∷ 0 ∷ n ∷ 0 ∷ 0 ∷ 0 ∷ [])
+    ++ ((0 ∷ 0 ∷ 0x80 ∷ 0x3f ∷ 0 ∷ 0 ∷ 0 ∷ 0x3f ∷ 0 ∷ 0 ∷ 0 ∷ 0x40 ∷ 0xff ∷ 0xff ∷ 0xff ∷ 0xff ∷ [])
+    ++ ((0 ∷ 0 ∷ 0 ∷ 0 ∷ 0 ∷ 0 ∷ 0 ∷ 0 ∷ 0 ∷ 0 ∷ 0 ∷ 0 ∷ 0 ∷ 0 ∷ 0 ∷ 0x40 ∷ 0 ∷ 0 ∷ 0 ∷ 0x40 ∷ 0 ∷ 0 ∷ 0 ∷ 0x40 ∷ [])
+    ++ (1 ∷ 2 ∷ 3 ∷ 4 ∷ 5 ∷ 6 ∷ 7 ∷ 8 ∷ [])))
+
+-- the records of (1, 0, 0), masses 1 and 2, and of (0, 0, 0), masses 3 and −4
+abbrev right : List ℕ
+right = 1 ∷ 0 ∷ 0 ∷ 0 ∷ 0 ∷ 0 ∷ 0 ∷ 0 ∷ 0 ∷ 0 ∷ 0x80 ∷ 0x3f ∷ 0 ∷ 0 ∷ 0 ∷ 0x40 ∷ []
+
+abbrev left : List ℕ
+left = 0 ∷ 0 ∷ 0 ∷ 0 ∷ 0 ∷ 0 ∷ 0 ∷ 0 ∷ 0 ∷ 0 ∷ 0x40 ∷ 0x40 ∷ 0 ∷ 0 ∷ 0x80 ∷ 0xc0 ∷ []
+
+abbrev spare : List ℕ
+spare = 9 ∷ 9 ∷ 9 ∷ 9 ∷ 9 ∷ 9 ∷ 9 ∷ 9 ∷ 9 ∷ 9 ∷ 9 ∷ 9 ∷ 9 ∷ 9 ∷ 9 ∷ 9 ∷ []
+
+abbrev zeros : List ℕ
+zeros = 0 ∷ 0 ∷ 0 ∷ 0 ∷ 0 ∷ 0 ∷ 0 ∷ 0 ∷ 0 ∷ 0 ∷ 0 ∷ 0 ∷ 0 ∷ 0 ∷ 0 ∷ 0 ∷ []
 
 unfoldable pub table : List Row
 table =
@@ -32,4 +57,13 @@ table =
     (0x314d5452 ∷ 2 ∷ 4 ∷ 9 ∷ 0x40400000 ∷ 0x4494c000 ∷ 0x3f000000 ∷ 0 ∷ 0xbf800000 ∷ 0 ∷ 0x40000000 ∷ 0x40000000 ∷ 0x40c00000 ∷ 0x40b00000 ∷ 5 ∷ 0 ∷ 0x3f000000 ∷ 0x40400000 ∷ 0x40700000 ∷ 0x40400000 ∷ 0x42340000 ∷ 0x3fc00000 ∷ 0x3f800000 ∷ 0xbf800000 ∷ 0xbe844444 ∷ 0x40033333 ∷ 0x40415555 ∷ 0 ∷ 0xbf200000 ∷ 0x40a80000 ∷ 0x401c0000 ∷ 0 ∷ 0xbe955555 ∷ 0x3ff55555 ∷ 0x4034e38e ∷ 0x41100000 ∷ 0xbe800000 ∷ 0x40400000 ∷ 0x40700000 ∷ 0x40400000 ∷ 0x42340000 ∷ 0x3fc00000 ∷ 0x40000000 ∷ 0x40400000 ∷ 0xbe844444 ∷ 0x40033333 ∷ 0x40415555 ∷ 0 ∷ 0xbf200000 ∷ 0x40a80000 ∷ 0x401c0000 ∷ 0 ∷ 0xbe955555 ∷ 0x3ff55555 ∷ 0x4034e38e ∷ 0x41100000 ∷ 0xbe800000 ∷ 0x3fc00000 ∷ 0x40700000 ∷ 0x3fe00000 ∷ 0x42200000 ∷ 0 ∷ 0xbf800000 ∷ 0xbf800000 ∷ 0xbe59999a ∷ 0x3fd33333 ∷ 0x40460000 ∷ 0 ∷ 0xbe800000 ∷ 0x3fc00000 ∷ 0x40700000 ∷ 0x41000000 ∷ 0xbe800000 ∷ 0x3fc00000 ∷ 0x40380000 ∷ 0x41000000 ∷ 0xbe800000 ∷ 0x40900000 ∷ 0x40700000 ∷ 0x3fe00000 ∷ 0x40a00000 ∷ 0x3fc00000 ∷ 0xbf800000 ∷ 0xbf800000 ∷ 0xbf200000 ∷ 0x40a80000 ∷ 0x401c0000 ∷ 0x41000000 ∷ 0xbf200000 ∷ 0x40a80000 ∷ 0x401c0000 ∷ 0x3f800000 ∷ 0xbf200000 ∷ 0x40a80000 ∷ 0x401c0000 ∷ 0x3f800000 ∷ 0x3fa00000 ∷ 0x40400000 ∷ 0x40700000 ∷ 0x40400000 ∷ 0 ∷ 0 ∷ 0xbf800000 ∷ 0xbf800000 ∷ 0xbf200000 ∷ 0x3f400000 ∷ 0x401c0000 ∷ 0 ∷ 0xbf200000 ∷ 0x3f400000 ∷ 0x401c0000 ∷ 0 ∷ 0xbf200000 ∷ 0x3f400000 ∷ 0x401c0000 ∷ 0 ∷ 0 ∷ 1 ∷ 2 ∷ 3 ∷ 5 ∷ 6 ∷ 7 ∷ 8 ∷ 4 ∷ [])
     -- g 192, record (192, 5, 0): refused 6, though its slot 1,152 is that of (0, 6, 0)
     ∷ builds (0x314d5952 ∷ 1 ∷ 192 ∷ 1 ∷ 0x4494c000 ∷ 0x3f000000 ∷ 0x40400000 ∷ 0 ∷ 0xbf800000 ∷ 0 ∷ 0x40000000 ∷ 0x40000000 ∷ 0x40c00000 ∷ 0x40b00000 ∷ 0 ∷ 0 ∷ 0x000500c0 ∷ 0 ∷ 0x40400000 ∷ 0 ∷ []) 7077888 6 0 0 []
+    -- g 2 with (1, 0, 0), 16 bytes to spare, 7 journal words: put (0, 0, 0), remove (1, 0, 0); then two undos
+    ∷ edits (headed 1 ++ (right ++ spare)) (0 ∷ 8 ∷ 8 ∷ 8 ∷ 8 ∷ 8 ∷ 8 ∷ []) (put 0 0 0 0x40400000 0xc0800000 ∷ remove 1 0 0 ∷ [])
+    (96 ∷ 80 ∷ [])
+    (headed 1 ++ (left ++ zeros))
+    (2 ∷ 0x40000000 ∷ 0 ∷ 0 ∷ 0xc0000001 ∷ 0x3f800000 ∷ 0x40000000 ∷ [])
+    ∷ edits (headed 1 ++ (right ++ spare)) (0 ∷ 8 ∷ 8 ∷ 8 ∷ 8 ∷ 8 ∷ 8 ∷ []) (put 0 0 0 0x40400000 0xc0800000 ∷ remove 1 0 0 ∷ undo ∷ undo ∷ [])
+    (96 ∷ 80 ∷ 96 ∷ 80 ∷ [])
+    (headed 1 ++ (right ++ zeros))
+    (0 ∷ 0 ∷ 0 ∷ 0 ∷ 0 ∷ 0 ∷ 0 ∷ [])
     ∷ []

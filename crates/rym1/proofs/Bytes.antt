@@ -286,6 +286,9 @@ stores s at new h = sets-eq new s at h ∙ append-assoc (take at s) new (drop (a
 pub store2 : (s : List ℕ) (at a b : ℕ) → at + 2 ≤ length s → set (set s at a) (at + 1) b ≡ splice s at (a ∷ b ∷ [])
 store2 s at a b h = simp towards-suc (stores s at (a ∷ b ∷ []) h)
 
+pub store3 : (s : List ℕ) (at a b c : ℕ) → at + 3 ≤ length s → set (set (set s at a) (at + 1) b) (at + 2) c ≡ splice s at (a ∷ b ∷ c ∷ [])
+store3 s at a b c h = simp towards-suc (stores s at (a ∷ b ∷ c ∷ []) h)
+
 pub store4 : (s : List ℕ) (at a b c d : ℕ) → at + 4 ≤ length s
     → set (set (set (set s at a) (at + 1) b) (at + 2) c) (at + 3) d ≡ splice s at (a ∷ b ∷ c ∷ d ∷ [])
 store4 s at a b c d h = simp towards-suc (stores s at (a ∷ b ∷ c ∷ d ∷ []) h)

@@ -307,7 +307,7 @@ map-records g m c h = ap massesIn (look-records g 0 m 0 (cube g) c (omega arith)
 
 module _ (g : ℕ) where
   -- records from `low` up do not name a lower cell
-  working-above : (i low : ℕ) (ps : List Point) (c : ℕ) → working g low ps ≡ true → c < low → lookFrom g i ps c ≡ vacant
+  pub working-above : (i low : ℕ) (ps : List Point) (c : ℕ) → working g low ps ≡ true → c < low → lookFrom g i ps c ≡ vacant
   unfolding working lookFrom
   working-above i low [] c w h = refl
   working-above i low (p ∷ ps) c w h =

@@ -3,3 +3,5 @@ pub mod Causes
 pub mod File
 pub mod Cells
 pub mod Open
+pub mod Journal
+pub mod Edits

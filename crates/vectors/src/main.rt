@@ -1,5 +1,6 @@
 // Replays stored answers of the Rust oracle and says how many are the same. oracle/README.md says how they were made.
 mod built;
+mod edited;
 mod narrowed;
 mod opened;
 mod parts;
@@ -12,4 +13,5 @@ fn main() {
     replay_file(b"narrow", b"narrow.bin", Kind::Narrow);
     replay_file(b"open", b"open.bin", Kind::Open);
     replay_file(b"build", b"build.bin", Kind::Build);
+    replay_file(b"edit", b"edit.bin", Kind::Edit);
 }

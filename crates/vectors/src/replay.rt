@@ -2,6 +2,7 @@
 // A further kind is a module with its size and its `is_same`, named in `case_size` and `is_same_case` below, and a line of `main`.
 ghost use Prim.Native.Nat.{_≤_};
 use crate::built;
+use crate::edited;
 use crate::narrowed;
 use crate::opened;
 use libc::STDOUT_FILENO;
@@ -10,6 +11,7 @@ pub enum Kind {
     Narrow,
     Open,
     Build,
+    Edit,
 }
 
 // How many bytes a case takes.
@@ -20,6 +22,7 @@ fn case_size(kind: Kind) -> usize
         Kind::Narrow => narrowed::SIZE,
         Kind::Open => opened::SIZE,
         Kind::Build => built::SIZE,
+        Kind::Edit => edited::SIZE,
     }
 }
 
@@ -29,6 +32,7 @@ fn is_same_case(kind: Kind, case: &[u8]) -> bool {
         Kind::Narrow => narrowed::is_same(case),
         Kind::Open => opened::is_same(case),
         Kind::Build => built::is_same(case),
+        Kind::Edit => edited::is_same(case),
     }
 }
 

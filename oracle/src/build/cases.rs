@@ -2,8 +2,8 @@
 
 use crate::open::cases::{
     coordinate, coordinates_and_masses, file_length, finite, header, header_float, header_word,
-    kind, mass, mutated, not_read, nothing, one_in, pick, scratch_length, shuffle, small_grid,
-    sparse, up_to, word, Case, Damage, Kind, FINITE,
+    kind, mass, mutated, not_read, nothing, one_in, pick, scratch_length, several_of, shuffle,
+    small_grid, sparse, up_to, with_records_of, word, Case, Kind, FINITE,
 };
 use crate::points::{point_file, Header, Record};
 use crate::rng::Rng;
@@ -43,18 +43,6 @@ pub(crate) const KINDS: [Kind; 21] = [
     kind("output lengths", 40_000, small, output_length),
     kind("several causes", 60_000, small, several),
     kind("mutated bytes", 40_000, small, mutated),
-];
-
-/// Damage that `several` puts together.
-const DAMAGES: [Damage; 8] = [
-    not_read,
-    header_float,
-    header_word,
-    file_length,
-    coordinate,
-    mass,
-    scratch_length,
-    output_length,
 ];
 
 /// Masses such as a body has.
@@ -192,14 +180,8 @@ fn small(rng: &mut Rng) -> Case {
     of_masses(rng, &USUAL)
 }
 
-/// As above, with at least one record.
 fn with_records(rng: &mut Rng) -> Case {
-    loop {
-        let case = small(rng);
-        if case.records > 0 {
-            return case;
-        }
-    }
+    with_records_of(rng, small)
 }
 
 /// Any header floats and any masses.
@@ -447,12 +429,8 @@ pub(crate) fn output_length(rng: &mut Rng, number: usize, case: &mut Case) {
     case.out = lengths[number % lengths.len()];
 }
 
-/// Two to four damages together.
 fn several(rng: &mut Rng, _: usize, case: &mut Case) {
-    for _ in 0..rng.range(2, 4) {
-        let number = up_to(rng, 10_000);
-        pick(rng, &DAMAGES)(rng, number, case);
-    }
+    several_of(rng, &[output_length], case);
 }
 
 #[cfg(test)]

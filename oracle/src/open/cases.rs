@@ -66,8 +66,8 @@ pub(crate) const KINDS: [Kind; 16] = [
     kind("mutated bytes", 120_000, any_order, mutated),
 ];
 
-/// Damage that `several` puts together.
-const DAMAGES: [Damage; 9] = [
+/// Damage that open and build have in common, for `several_of`.
+const DAMAGES: [Damage; 7] = [
     not_read,
     header_float,
     header_word,
@@ -75,12 +75,21 @@ const DAMAGES: [Damage; 9] = [
     coordinate,
     mass,
     scratch_length,
-    output_length,
-    journal_length,
+];
+
+/// The answers that kinds of damage to the file alone reach, by open and by build.
+#[cfg(test)]
+pub(crate) const DAMAGE_ANSWERS: [(&str, &[u64]); 6] = [
+    ("header floats", &[5, 64]),
+    ("header words", &[2, 3, 4, 6, 8, 64]),
+    ("file lengths", &[1, 4, 64]),
+    ("coordinates", &[6, 64]),
+    ("masses", &[7, 64]),
+    ("6 and 7 together", &[6, 7, 64]),
 ];
 
 /// Float bits: NaNs of both signs, quiet and signalling, and the infinities.
-const NOT_FINITE: [u32; 8] = [
+pub(crate) const NOT_FINITE: [u32; 8] = [
     0x7f80_0000,
     0xff80_0000,
     0x7fc0_0000,
@@ -334,7 +343,7 @@ fn repeated(rng: &mut Rng) -> Case {
 }
 
 /// One of the three above, with junk in what is not read once in two.
-fn any_order(rng: &mut Rng) -> Case {
+pub(crate) fn any_order(rng: &mut Rng) -> Case {
     let mut case = pick(rng, &[ascending, shuffled, repeated])(rng);
     if one_in(rng, 2) {
         not_read(rng, 0, &mut case);
@@ -342,10 +351,14 @@ fn any_order(rng: &mut Rng) -> Case {
     case
 }
 
-/// As above, with at least one record.
 fn with_records(rng: &mut Rng) -> Case {
+    with_records_of(rng, any_order)
+}
+
+/// Such a case, with at least one record.
+pub(crate) fn with_records_of(rng: &mut Rng, good: fn(&mut Rng) -> Case) -> Case {
     loop {
-        let case = any_order(rng);
+        let case = good(rng);
         if case.records > 0 {
             return case;
         }
@@ -353,12 +366,17 @@ fn with_records(rng: &mut Rng) -> Case {
 }
 
 /// Grids from 13 to 256, mostly up to 48, with few records.
-fn large(rng: &mut Rng) -> Case {
+pub(crate) fn large(rng: &mut Rng) -> Case {
     let grid = if one_in(rng, 16) {
         rng.range(49, 256)
     } else {
         rng.range(13, 48)
     } as usize;
+    few_records(rng, grid)
+}
+
+/// At most 300 records and as many as a quarter again, in any order.
+pub(crate) fn few_records(rng: &mut Rng, grid: usize) -> Case {
     let mut numbers = sparse(rng, grid, 300);
     if one_in(rng, 2) {
         numbers.extend_from_within(..numbers.len() / 4);
@@ -591,11 +609,16 @@ fn journal_length(rng: &mut Rng, number: usize, case: &mut Case) {
     }
 }
 
-/// Two to four damages together.
 fn several(rng: &mut Rng, _: usize, case: &mut Case) {
+    several_of(rng, &[output_length, journal_length], case);
+}
+
+/// Two to four damages together, of the common ones and these.
+pub(crate) fn several_of(rng: &mut Rng, these: &[Damage], case: &mut Case) {
+    let damages = [&DAMAGES, these].concat();
     for _ in 0..rng.range(2, 4) {
         let number = up_to(rng, 10_000);
-        pick(rng, &DAMAGES)(rng, number, case);
+        pick(rng, &damages)(rng, number, case);
     }
 }
 

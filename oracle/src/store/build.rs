@@ -4,11 +4,10 @@
 //! count, then zeros to byte 64. At 64 the file, 1,024 bytes; at 1,088 the output before, at 4,544 the output after, 3,456 bytes
 //! each. What is left of each part, and of the block, is 0.
 
-use super::open::{bytes_of, words_of};
+use super::blocks::{self, bytes_of, in_turn, kept, laid, lend, words_of};
 use crate::build::cases::KINDS;
 use crate::build::{in_words, unlike_the_original, Build};
 use crate::ffi::{self, Built};
-use crate::lent::{mixed, Lent};
 use crate::open::cases::Case;
 use crate::open::out_byte;
 use crate::original;
@@ -57,16 +56,16 @@ impl Stored {
     }
 
     fn block(&self) -> Vec<u8> {
-        let mut block = vec![0; BLOCK];
-        let mut put = |at: usize, bytes: &[u8]| block[at..at + bytes.len()].copy_from_slice(bytes);
         let lengths = [self.file.len(), self.scratch, self.out[0].len()];
         let built = [self.built.answer, self.built.nodes, self.built.order];
-        put(0, &bytes_of(&lengths.map(|length| length as u32)));
-        put(12, &bytes_of(&built.map(|number| number as u32)));
-        put(FILE, &self.file);
-        put(OUT_BEFORE, &self.out[0]);
-        put(OUT_AFTER, &self.out[1]);
-        block
+        let parts: [(usize, &[u8]); 5] = [
+            (0, &bytes_of(&lengths.map(|length| length as u32))),
+            (12, &bytes_of(&built.map(|number| number as u32))),
+            (FILE, &self.file),
+            (OUT_BEFORE, &self.out[0]),
+            (OUT_AFTER, &self.out[1]),
+        ];
+        laid(BLOCK, &parts)
     }
 
     /// The case in a block, or nothing where a length is past its part.
@@ -102,18 +101,7 @@ fn fits(case: &Case) -> bool {
 
 /// The kinds in turn, each with the next of its cases that fits.
 fn cases() -> Vec<Case> {
-    let small = KINDS.iter().map(|kind| {
-        (0..kind.cases)
-            .map(|number| kind.case(SEED, number))
-            .filter(fits)
-    });
-    let mut small: Vec<_> = small.collect();
-    let mut cases = Vec::with_capacity(CASES);
-    while cases.len() < CASES {
-        cases.extend(small.iter_mut().filter_map(Iterator::next));
-    }
-    cases.truncate(CASES);
-    cases
+    in_turn(&KINDS, SEED, fits, CASES)
 }
 
 /// The bytes of `build.bin`.
@@ -133,18 +121,11 @@ fn rule_on(stored: &mut Stored) -> Built {
 
 /// The same for the library, and whether it kept to its buffers.
 fn library_on(build: Build, stored: &mut Stored) -> (Built, bool) {
-    let (mut file, mut out, mut scratch) = (Lent::new(), Lent::new(), Lent::new());
-    file.fill(0, stored.file.iter().copied());
-    scratch.fill(0, (0..stored.scratch).map(|at| mixed(1, at)));
-    out.fill(0, stored.out[0].iter().copied());
-    let built = build(file.slice(), scratch.slice_mut(), out.slice_mut());
-    let intact = file.intact() && scratch.intact() && out.intact();
-    let unchanged = |(at, &word): (usize, &u32)| word == mixed(1, at);
-    let spared = scratch.slice().iter().enumerate().all(unchanged);
-    let kept =
-        intact && file.slice() == stored.file && (spared || !(1..=8).contains(&built.answer));
-    stored.out[1] = out.slice().to_vec();
-    (built, kept)
+    let mut lent = lend(&stored.file, stored.scratch, &stored.out[0]);
+    let (scratch, out) = (lent.scratch.slice_mut(), lent.out.slice_mut());
+    let built = build(lent.file.slice(), scratch, out);
+    stored.out[1] = lent.out.slice().to_vec();
+    (built, kept(&lent, &stored.file, built.answer))
 }
 
 /// What is wrong with a block, by the library, by the rule or by the original.
@@ -174,22 +155,7 @@ pub(super) fn replay(stored: &[u8]) -> Found {
 }
 
 fn replay_by(build: Build, stored: &[u8]) -> Found {
-    let blocks = stored.chunks_exact(BLOCK);
-    let rest = blocks.remainder();
-    let told = (0..)
-        .zip(blocks.clone())
-        .filter_map(|(number, block): (u64, _)| {
-            wrong(build, block).map(|what| format!("case {number}: {what}"))
-        });
-    let mut told: Vec<String> = told.collect();
-    if !rest.is_empty() {
-        told.push("the file ends inside a case".into());
-    }
-    Found {
-        cases: blocks.len() as u64,
-        mismatches: told.len() as u64,
-        smallest: told.into_iter().next(),
-    }
+    blocks::replay(BLOCK, stored, |block| wrong(build, block))
 }
 
 #[cfg(test)]

@@ -4,8 +4,9 @@
 //! then zeros to byte 64. At 64 the file, at 1,088 the output before, at 2,112 the output after, 1,024 bytes each; at 3,136 the
 //! journal before, at 3,392 the journal after, 64 words each. What is left of each part, and of the block, is 0.
 
+use super::blocks::{self, bytes_of, in_turn, kept, laid, lend, words_of};
 use crate::ffi;
-use crate::lent::{mixed, Lent};
+use crate::lent::Lent;
 use crate::open::cases::{Case, KINDS};
 use crate::open::{journal_word, out_byte};
 use crate::report::Found;
@@ -54,8 +55,6 @@ impl Stored {
     }
 
     fn block(&self) -> Vec<u8> {
-        let mut block = vec![0; BLOCK];
-        let mut put = |at: usize, bytes: &[u8]| block[at..at + bytes.len()].copy_from_slice(bytes);
         let lengths = [
             self.file.len(),
             self.scratch,
@@ -63,14 +62,16 @@ impl Stored {
             self.journal[0].len(),
         ];
         let words = lengths.map(|length| length as u32);
-        put(0, &bytes_of(&words));
-        put(16, &bytes_of(&[self.answer as u32]));
-        put(FILE, &self.file);
-        put(OUT_BEFORE, &self.out[0]);
-        put(OUT_AFTER, &self.out[1]);
-        put(JOURNAL_BEFORE, &bytes_of(&self.journal[0]));
-        put(JOURNAL_AFTER, &bytes_of(&self.journal[1]));
-        block
+        let parts: [(usize, &[u8]); 7] = [
+            (0, &bytes_of(&words)),
+            (16, &bytes_of(&[self.answer as u32])),
+            (FILE, &self.file),
+            (OUT_BEFORE, &self.out[0]),
+            (OUT_AFTER, &self.out[1]),
+            (JOURNAL_BEFORE, &bytes_of(&self.journal[0])),
+            (JOURNAL_AFTER, &bytes_of(&self.journal[1])),
+        ];
+        laid(BLOCK, &parts)
     }
 
     /// The case in a block, or nothing where a length is past its part.
@@ -92,15 +93,6 @@ impl Stored {
     }
 }
 
-pub(super) fn bytes_of(words: &[u32]) -> Vec<u8> {
-    words.iter().flat_map(|word| word.to_le_bytes()).collect()
-}
-
-pub(super) fn words_of(bytes: &[u8]) -> Vec<u32> {
-    let (words, _) = bytes.as_chunks::<4>();
-    words.iter().map(|word| u32::from_le_bytes(*word)).collect()
-}
-
 /// Whether a case is small and fits into a block.
 fn fits(case: &Case) -> bool {
     case.grid <= 6
@@ -113,18 +105,7 @@ fn fits(case: &Case) -> bool {
 
 /// The kinds in turn, each with the next of its cases that fits.
 fn cases() -> Vec<Case> {
-    let small = KINDS.iter().map(|kind| {
-        (0..kind.cases)
-            .map(|number| kind.case(SEED, number))
-            .filter(fits)
-    });
-    let mut small: Vec<_> = small.collect();
-    let mut cases = Vec::with_capacity(CASES);
-    while cases.len() < CASES {
-        cases.extend(small.iter_mut().filter_map(Iterator::next));
-    }
-    cases.truncate(CASES);
-    cases
+    in_turn(&KINDS, SEED, fits, CASES)
 }
 
 /// The bytes of `open.bin`.
@@ -145,24 +126,18 @@ fn rule_on(stored: &mut Stored) -> u64 {
 
 /// The same for the library, and whether it kept to its buffers.
 fn library_on(stored: &mut Stored) -> (u64, bool) {
-    let (mut file, mut out) = (Lent::new(), Lent::new());
-    let (mut scratch, mut journal) = (Lent::new(), Lent::new());
-    file.fill(0, stored.file.iter().copied());
-    scratch.fill(0, (0..stored.scratch).map(|at| mixed(1, at)));
-    out.fill(0, stored.out[0].iter().copied());
+    let mut lent = lend(&stored.file, stored.scratch, &stored.out[0]);
+    let mut journal = Lent::new();
     journal.fill(0, stored.journal[0].iter().copied());
     let answer = ffi::open(
-        file.slice(),
-        scratch.slice_mut(),
-        out.slice_mut(),
+        lent.file.slice(),
+        lent.scratch.slice_mut(),
+        lent.out.slice_mut(),
         journal.slice_mut(),
     );
-    let intact = file.intact() && scratch.intact() && out.intact() && journal.intact();
-    let unchanged = |(at, &word): (usize, &u32)| word == mixed(1, at);
-    let spared = scratch.slice().iter().enumerate().all(unchanged);
-    let kept = intact && file.slice() == stored.file && (spared || !(1..=8).contains(&answer));
-    stored.out[1] = out.slice().to_vec();
+    stored.out[1] = lent.out.slice().to_vec();
     stored.journal[1] = journal.slice().to_vec();
+    let kept = kept(&lent, &stored.file, answer) && journal.intact();
     (answer, kept)
 }
 
@@ -192,22 +167,7 @@ fn wrong(block: &[u8]) -> Option<String> {
 
 /// Holds the library and the rule to the stored answers.
 pub(super) fn replay(stored: &[u8]) -> Found {
-    let blocks = stored.chunks_exact(BLOCK);
-    let rest = blocks.remainder();
-    let told = (0..)
-        .zip(blocks.clone())
-        .filter_map(|(number, block): (u64, _)| {
-            wrong(block).map(|what| format!("case {number}: {what}"))
-        });
-    let mut told: Vec<String> = told.collect();
-    if !rest.is_empty() {
-        told.push("the file ends inside a case".into());
-    }
-    Found {
-        cases: blocks.len() as u64,
-        mismatches: told.len() as u64,
-        smallest: told.into_iter().next(),
-    }
+    blocks::replay(BLOCK, stored, wrong)
 }
 
 #[cfg(test)]

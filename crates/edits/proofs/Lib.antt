@@ -1,0 +1,8 @@
+pub mod Moving
+pub mod Finding
+pub mod Counts
+pub mod Judging
+pub mod Rooms
+pub mod Putting
+pub mod Removing
+pub mod Undoing

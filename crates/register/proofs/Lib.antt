@@ -1,0 +1,10 @@
+pub mod Replayed
+pub mod Plain
+pub mod Words
+pub mod Stacks
+pub mod Simulation
+pub mod Simulated
+pub mod Slots
+pub mod Built
+pub mod Leaves
+pub mod Theorem
