@@ -7,7 +7,7 @@ use native.Mathlib.Numerals.{add-one, towards-suc}
 use native.Mathlib.Omega.{arith}
 use lib.ListN.{length, getD, set, take, drop, length-append, length-drop, take-append-drop, List·getD-append}
 use lib.Seq.{sets, sets-eq, length-take-le, take-at, drop-at, take-append-le, drop-append-le, take-append-add, drop-append-add, drop-drop, take-add}
-use lib.Seq.{take-take, take-suc, drop-cons, set-at, getD-take, getD-drop, getD-append-add}
+use lib.Seq.{take-take, drop-cons, getD-take, getD-drop, getD-append-add}
 use lib.Arith.{digits-div, digits-mod, mod-mul}
 use Rattle.rym1.specs.Bytes.{word, le, splice}
 
@@ -62,9 +62,6 @@ word-same (suc k) s t i j h =
 
 pub word-take : (k n : ℕ) (s : List ℕ) (at : ℕ) → at + k ≤ n → word k (take n s) at ≡ word k s at
 word-take k n s at h = word-same k (take n s) s at at (λ m b. getD-take n s (at + m) 0 (omega arith))
-
-pub word-drop : (k n : ℕ) (s : List ℕ) (at : ℕ) → word k (drop n s) at ≡ word k s (n + at)
-word-drop k n s at = word-same k (drop n s) s at (n + at) (λ m b. rw (add-assoc n at m) (getD-drop n s (at + m) 0))
 
 pub word-append-left : (k : ℕ) (p q : List ℕ) (at : ℕ) → at + k ≤ length p → word k (p ++ q) at ≡ word k p at
 word-append-left k p q at h = word-same k (p ++ q) p at at (λ m b. List·getD-append p q 0 (at + m) (omega arith))
@@ -200,10 +197,6 @@ word-splice-before k s at new i h b = word-same k (splice s at new) s i i (λ m 
 pub word-splice-behind : (k : ℕ) (s : List ℕ) (at : ℕ) (new : List ℕ) (i : ℕ) → at + length new ≤ i → at ≤ length s → word k (splice s at new) i ≡ word k s i
 word-splice-behind k s at new i h b = word-same k (splice s at new) s i i (λ m c. splice-behind s at new (i + m) (omega arith) b)
 
-pub word-splice-inside : (k : ℕ) (s : List ℕ) (at : ℕ) (new : List ℕ) (i : ℕ) → i + k ≤ length new → at ≤ length s → word k (splice s at new) (at + i) ≡ word k new i
-word-splice-inside k s at new i h b =
-    word-same k (splice s at new) new (at + i) i (λ m c. rw (add-assoc at i m) (splice-inside s at new (i + m) (omega arith) b))
-
 -- a number read where it was written
 pub word-splice-same : (k n : ℕ) (s : List ℕ) (at : ℕ) → at + k ≤ length s → word k (splice s at (le k n)) at ≡ n % 256 ^ k
 unfolding splice
@@ -262,20 +255,6 @@ take-bytes (suc n) [] h i = omega arith
 take-bytes (suc n) (x ∷ s) h zero = h 0
 take-bytes (suc n) (x ∷ s) h (suc i) = take-bytes n s (λ j. h (suc j)) i
 
-pub drop-bytes : (n : ℕ) (s : List ℕ) → AllBytes s → AllBytes (drop n s)
-drop-bytes n s h i = rw (getD-drop n s i 0) (h (n + i))
-
-pub append-bytes : (p q : List ℕ) → AllBytes p → AllBytes q → AllBytes (p ++ q)
-append-bytes [] q hp hq i = hq i
-append-bytes (x ∷ p) q hp hq zero = hp 0
-append-bytes (x ∷ p) q hp hq (suc i) = append-bytes p q (λ j. hp (suc j)) hq i
-
-pub splice-bytes : (s : List ℕ) (at : ℕ) (new : List ℕ) → AllBytes s → AllBytes new → AllBytes (splice s at new)
-unfolding splice
-splice-bytes s at new h hn =
-    append-bytes (take at s) (new ++ drop (at + length new) s) (take-bytes at s h)
-    (append-bytes new (drop (at + length new) s) hn (drop-bytes (at + length new) s h))
-
 -- ---- stores
 
 pub stores : (s : List ℕ) (at : ℕ) (new : List ℕ) → at + length new ≤ length s → sets s at new ≡ splice s at new
@@ -293,15 +272,7 @@ pub store4 : (s : List ℕ) (at a b c d : ℕ) → at + 4 ≤ length s
     → set (set (set (set s at a) (at + 1) b) (at + 2) c) (at + 3) d ≡ splice s at (a ∷ b ∷ c ∷ d ∷ [])
 store4 s at a b c d h = simp towards-suc (stores s at (a ∷ b ∷ c ∷ d ∷ []) h)
 
--- a store right before a splice, and right behind it
-pub splice-cons : (s : List ℕ) (at : ℕ) (new : List ℕ) (v : ℕ) → at < length s → set (splice s (at + 1) new) at v ≡ splice s at (v ∷ new)
-unfolding splice
-splice-cons s at new v h =
-    let e1 : take (at + 1) s ≡ take at s ++ (getD s at 0 ∷ []) = rw (add-one at) (take-suc s at 0 h) in
-    let e2 : at + 1 + length new ≡ at + suc (length new) = omega arith in
-    let back : List ℕ = new ++ drop (at + suc (length new)) s in
-    rw (e1, e2, append-assoc (take at s) (getD s at 0 ∷ []) back) (set-at (take at s) (getD s at 0) back v at (length-take-le at s (omega arith)))
-
+-- a store right behind a splice
 pub splice-snoc : (s : List ℕ) (at : ℕ) (new : List ℕ) (v k : ℕ) → at + length new < length s → at + length new ≡ k → set (splice s at new) k v ≡ splice s at (new ++ (v ∷ []))
 splice-snoc s at new v k h e =
     let l : length (splice s at new) ≡ length s = length-splice s at new (omega arith) in
