@@ -1,10 +1,10 @@
 // Little-endian numbers in a slice of bytes (binary.rs, and the closures u16_at and u32_at of mascon_tree.rs).
 ghost use mathlib.Core.Path.{_≡_};
 ghost use Prim.Native.Nat.{_+_, _≤_, _<_};
-ghost use lib.ListN.{length};
-ghost use lib.Ieee.{binary64, toBits};
+ghost use lib.ListN.{length, replicate};
+ghost use lib.Ieee.{binary64, ofBits, toBits};
 ghost use Rattle.float.specs.Narrow.{narrow64};
-ghost use Rattle.rym1.specs.Bytes.{word16, word32, word64, le16, le32, le64, splice};
+ghost use Rattle.rym1.specs.Bytes.{word16, word32, word64, le16, le32, le64, wordsBytes, splice};
 
 // A byte as a wider number: `wide(s[i])` asks only for the index.
 fn wide(x: u8) -> u32
@@ -40,6 +40,14 @@ pub fn u64_at(s: &[u8], at: usize) -> u64
     let low = u32_at(s, at) as u64;
     let high = u32_at(s, at + 4) as u64;
     low + 4294967296 * high
+}
+
+// The number of a binary64's pattern. Each NaN's pattern gives the NaN.
+pub fn f64_at(s: &[u8], at: usize) -> f64
+    requires { ⌜ at + 8 ≤ length (now s) ⌝ }
+    ensures { λ r. ⌜ r ≡ ofBits binary64 (word64 (now (s .entry)) at) ⌝ }
+{
+    float::pattern::f64_from_bits(u64_at(s, at))
 }
 
 // The low two bytes of the value.
@@ -83,4 +91,27 @@ pub fn out_f32(s: &mut [u8], at: usize, value: f64)
 {
     let pattern = float::narrow(value);
     out_u32(s, at, pattern);
+}
+
+// Sixteen words, from byte 0 on.
+pub fn out_words(out: &mut [u8], words: [u32; 16])
+    requires { ⌜ 64 ≤ length (now out) ⌝ }
+    ensures { λ _. ⌜ now (out .exit) ≡ splice (now (out .entry)) 0 (wordsBytes words) ⌝ }
+{
+    let mut i: usize = 0;
+    while i < 16 {
+        out_u32(out, 4 * i, words[i]);
+        i += 1;
+    }
+}
+
+// Zeros, the whole slice.
+pub fn clear(s: &mut [u8])
+    ensures { λ _. ⌜ now (s .exit) ≡ replicate (length (now (s .entry))) 0 ⌝ }
+{
+    let mut i: usize = 0;
+    while i < s.len() {
+        s[i] = 0;
+        i += 1;
+    }
 }

@@ -1,4 +1,4 @@
--- Laws of records within a buffer: one written, one moved at each turn of a loop, one come or gone. Assumes nothing.
+-- Laws of records within a buffer: one moved at each turn of a loop, one come or gone. Assumes nothing.
 use Prim.Native.Nat.{ℕ, suc, _+_, _-_, _*_, _≤_, _<_}
 use mathlib.Core.Path.{_≡_, refl, sym, ap, _∙_}
 use mathlib.Core.List.{List, _++_}
@@ -11,36 +11,15 @@ use Rattle.rym1.specs.Bytes.{word, le, splice}
 use Rattle.rym1.specs.File.{count, size, pointBytes}
 use Rattle.rym1.specs.Open.{counted}
 use Rattle.rym1.specs.Edits.{laterBytes, inserted, removed}
-use Rattle.rym1.proofs.Bytes.{AllBytes, length-le, le-word, length-splice, word-splice-before, word-splice-behind, splice-none, splice-splice, splice-comm, part-part}
+use Rattle.rym1.proofs.Bytes.{AllBytes, length-le, le-word, length-splice, word-splice-before, word-splice-behind, splice-none, splice-splice, splice-comm, behind, part-part}
 use Rattle.rym1.proofs.Points.{length-point}
 
--- ---- two splices on end: the second right behind the first, or right before it
-
-behind : (s : List ℕ) {s₁ s₂ : List ℕ} (at : ℕ) (u v : List ℕ) (k : ℕ) → at + length u + length v ≤ length s → at + length u ≡ k
-    → s₁ ≡ splice s at u → s₂ ≡ splice s₁ k v → s₂ ≡ splice s at (u ++ v)
-behind s at u v k h e e₁ e₂ = e₂ ∙ ap (λ (l : List ℕ). splice l k v) e₁ ∙ splice-splice s at u v k h e
+-- ---- two splices on end: the second right before the first
 
 ahead : (s : List ℕ) {s₁ s₂ : List ℕ} (at : ℕ) (u v : List ℕ) (k : ℕ) → at + length u + length v ≤ length s → at + length u ≡ k
     → s₁ ≡ splice s k v → s₂ ≡ splice s₁ at u → s₂ ≡ splice s at (u ++ v)
 ahead s at u v k h e e₁ e₂ =
     e₂ ∙ ap (λ (l : List ℕ). splice l at u) e₁ ∙ sym (splice-comm s at k u v (omega arith) (omega arith)) ∙ splice-splice s at u v k h e
-
--- ---- a record written
-
-pub point-stores : (s s₁ s₂ s₃ s₄ s₅ s₆ : List ℕ) (at : ℕ) (p : Point) → at + 16 ≤ length s → s₁ ≡ splice s at (le 2 (p .x)) → s₂ ≡ splice s₁ (at + 2) (le 2 (p .y))
-    → s₃ ≡ splice s₂ (at + 4) (le 2 (p .z)) → s₄ ≡ splice s₃ (at + 6) (le 2 (p .pad)) → s₅ ≡ splice s₄ (at + 8) (le 4 (p .cauchy)) → s₆ ≡ splice s₅ (at + 12) (le 4 (p .elliptic))
-    → s₆ ≡ splice s at (pointBytes p)
-unfolding pointBytes le
-point-stores s s₁ s₂ s₃ s₄ s₅ s₆ at p h e₁ e₂ e₃ e₄ e₅ e₆ =
-    let x = le 2 (p .x) in
-    let y = le 2 (p .y) in
-    let z = le 2 (p .z) in
-    let pad = le 2 (p .pad) in
-    let d₂ = behind s at x y (at + 2) (omega arith) refl e₁ e₂ in
-    let d₃ = behind s at (x ++ y) z (at + 4) (omega arith) refl d₂ e₃ in
-    let d₄ = behind s at (x ++ (y ++ z)) pad (at + 6) (omega arith) refl d₃ e₄ in
-    let d₅ = behind s at (x ++ (y ++ (z ++ pad))) (le 4 (p .cauchy)) (at + 8) (omega arith) refl d₄ e₅ in
-    behind s at (x ++ (y ++ (z ++ (pad ++ le 4 (p .cauchy))))) (le 4 (p .elliptic)) (at + 12) (omega arith) refl d₅ e₆
 
 -- ---- a record moved
 

@@ -25,7 +25,6 @@ use journal::pop;
 use journal::push;
 use journal::push_cause;
 use moves::insert_point;
-use moves::out_point;
 use moves::remove_point;
 use points::judge::is_refused;
 use points::judge::mass_cause;
@@ -35,8 +34,10 @@ use points::judge::point_cause;
 use points::judge::work_cause;
 use points::lookup::cells;
 use points::records::cell_number;
+use points::records::cell_point;
 use points::records::count;
 use points::records::grid;
+use points::records::out_point;
 use rym1::Answer;
 use rym1::Cause;
 use rym1::Point;
@@ -61,21 +62,6 @@ fn length_of(n: u32) -> Answer
     ensures { λ r. ⌜ told r ≡ 64 + 16 * n ⌝ }
 {
     Answer::Length(64 + 16 * (n as u64))
-}
-
-// The record of a cell of the grid, by its number.
-fn cell_point(g: u32, c: u32, cauchy: u32, elliptic: u32) -> Point
-    requires { ⌜ 0 < g ⌝ }
-    ensures { λ r. ⌜ r ≡ cellPoint g c (record { cauchy = cauchy; elliptic = elliptic }) ⌝ }
-{
-    Point {
-        x: c % g,
-        y: c / g % g,
-        z: c / g / g,
-        pad: 0,
-        cauchy,
-        elliptic,
-    }
 }
 
 // ---- put

@@ -1,4 +1,4 @@
-// Records moved within a buffer, and one record written, come or gone.
+// Records moved within a buffer, and one record come or gone.
 ghost use mathlib.Core.Path.{_≡_};
 ghost use mathlib.Core.List.{_++_};
 ghost use Prim.Native.Nat.{suc, _+_, _*_, _≤_, _<_};
@@ -7,20 +7,8 @@ ghost use Rattle.rym1.specs.Bytes.{splice};
 ghost use Rattle.rym1.specs.File.{count, size, pointBytes};
 ghost use Rattle.rym1.specs.Edits.{inserted, removed};
 use points::records::count;
+use points::records::out_point;
 use rym1::Point;
-
-// A record at a byte.
-pub fn out_point(file: &mut [u8], at: usize, p: Point)
-    requires { ⌜ at + 16 ≤ length (now file) ⌝ }
-    ensures { λ _. ⌜ now (file .exit) ≡ splice (now (file .entry)) at (pointBytes p) ⌝ }
-{
-    binary::out_u16(file, at, p.x);
-    binary::out_u16(file, at + 2, p.y);
-    binary::out_u16(file, at + 4, p.z);
-    binary::out_u16(file, at + 6, p.pad);
-    binary::out_u32(file, at + 8, p.cauchy);
-    binary::out_u32(file, at + 12, p.elliptic);
-}
 
 // k records from byte `at` on, to 16 bytes further up: the last one first.
 fn move_up(file: &mut [u8], at: usize, k: usize)

@@ -27,6 +27,10 @@ pub fn cause_number(cause: Cause) -> u64
         Cause::BufferFull => 14,
         Cause::NoEntry => 15,
         Cause::EntryWrong => 16,
+        Cause::ListWrong => 17,
+        Cause::CapacityExceeded => 18,
+        Cause::BoxFlat => 19,
+        Cause::FloatNotFinite => 20,
     }
 }
 

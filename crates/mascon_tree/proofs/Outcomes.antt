@@ -9,18 +9,18 @@ use lib.Dec.{eqb, ltb}
 use borrow.Author.Tests.{lt-ltb, le-ltb}
 use Rattle.rym1.specs.declared.Cause.{Cause}
 use Rattle.rym1.specs.declared.Cause.the-variants.{ScratchShort, OutputShort}
-use Rattle.rym1.specs.Bytes.{splice}
+use Rattle.rym1.specs.Bytes.{splice, wordsBytes}
 use Rattle.rym1.specs.Causes.{number, when, first, outcome, refuse}
 use Rattle.rym1.specs.File.{grid, cube, fileCause}
-use Rattle.rym1.proofs.Bytes.{length-splice, splice-splice}
+use Rattle.rym1.proofs.Bytes.{length-splice, splice-splice, length-words}
 use Rattle.rym1.proofs.Causes.{first-found, refuse-found}
 use Rattle.points.proofs.Refused.{refused}
 use Rattle.rtm1.specs.declared.Built.{Built}
 use Rattle.rtm1.specs.declared.Built.the-variants.{Refused, Done}
 use Rattle.rtm1.specs.Tree.{nodeCount, order}
 use Rattle.rtm1.specs.Node.{frameOf, nodesBytes}
-use Rattle.rtm1.specs.Build.{wordsBytes, headerWords, treeBytes, treeLength, fileTree, output, buildCause, build, answerOf, nodesOf, orderOf, told}
-use Rattle.rtm1.proofs.Bytes.{header-long, length-words, length-nodes}
+use Rattle.rtm1.specs.Build.{headerWords, treeBytes, treeLength, fileTree, output, buildCause, build, answerOf, nodesOf, orderOf, told}
+use Rattle.rtm1.proofs.Bytes.{header-long, length-nodes}
 use Rattle.mascon_tree.specs.declared.Next.{Next}
 use Rattle.mascon_tree.specs.Written.{Space, Written, Building}
 

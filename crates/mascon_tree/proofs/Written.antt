@@ -7,17 +7,16 @@ use native.Mathlib.Nat.{add-zero}
 use native.Mathlib.Omega.{arith}
 use lib.ListN.{length, length-append, length-map}
 use lib.Ieee.{binary64, neg, ofBits}
-use Rattle.rym1.specs.Bytes.{splice}
-use Rattle.rym1.proofs.Bytes.{length-splice, splice-none, splice-splice, splice-comm}
+use Rattle.rym1.specs.Bytes.{splice, wordsBytes}
+use Rattle.rym1.proofs.Bytes.{length-splice, splice-none, splice-splice, splice-comm, length-words, words-append}
 use Rattle.rtm1.specs.declared.Cells.{Cells}
 use Rattle.rtm1.specs.declared.Frame.{Frame}
 use Rattle.rtm1.specs.declared.Sums.{Sums}
 use Rattle.rtm1.specs.Visit.{Placed, nothing}
 use Rattle.rtm1.specs.Tree.{Tree, empty, leaf, split, indices, nodeCount, order, occupied}
 use Rattle.rtm1.specs.Node.{minusOne, link, nodeFloats, floatsBytes, nodesBytes}
-use Rattle.rtm1.specs.Build.{wordsBytes}
 use Rattle.rtm1.proofs.Node.{length-node-bytes}
-use Rattle.rtm1.proofs.Bytes.{length-words, words-append, length-nodes}
+use Rattle.rtm1.proofs.Bytes.{length-nodes}
 use Rattle.mascon_tree.specs.declared.Next.{Next}
 use Rattle.mascon_tree.specs.Written.{Space, Written}
 

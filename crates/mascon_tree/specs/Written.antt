@@ -3,13 +3,13 @@ use Prim.Native.Nat.{ℕ, _+_, _*_, _≤_, _<_}
 use mathlib.Core.Path.{_≡_}
 use mathlib.Core.List.{List}
 use lib.ListN.{length}
-use Rattle.rym1.specs.Bytes.{splice}
+use Rattle.rym1.specs.Bytes.{splice, wordsBytes}
 use Rattle.rym1.specs.File.{grid, cube}
 use Rattle.rtm1.specs.declared.Frame.{Frame}
 use Rattle.rtm1.specs.declared.Built.{Built}
 use Rattle.rtm1.specs.Tree.{Tree, nodeCount, order, occupied}
 use Rattle.rtm1.specs.Node.{nodesBytes}
-use Rattle.rtm1.specs.Build.{wordsBytes, build, answerOf, told}
+use Rattle.rtm1.specs.Build.{build, answerOf, told}
 use Rattle.mascon_tree.specs.declared.Next.{Next}
 
 -- room for a tree whose root has place `node`, `before` points being ordered before it; order words start at the byte `at`

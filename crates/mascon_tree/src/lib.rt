@@ -5,13 +5,13 @@ ghost use mathlib.Core.Path.{_≡_};
 ghost use mathlib.Core.Bool.{true};
 ghost use Prim.Native.Nat.{_+_, _*_, _≤_, _<_};
 ghost use lib.ListN.{length};
-ghost use Rattle.rym1.specs.Bytes.{splice};
+ghost use Rattle.rym1.specs.Bytes.{splice, wordsBytes};
 ghost use Rattle.rym1.specs.Cells.{look};
 ghost use Rattle.rtm1.specs.Boxes.{Within};
 ghost use Rattle.rtm1.specs.Visit.{nothing, visit};
 ghost use Rattle.rtm1.specs.Tree.{empty, leaf, indices, treeOf, nodeCount};
 ghost use Rattle.rtm1.specs.Node.{nodeFloats, floatsBytes, link};
-ghost use Rattle.rtm1.specs.Build.{wordsBytes, headerWords, build, answerOf, told};
+ghost use Rattle.rtm1.specs.Build.{headerWords, build, answerOf, told};
 ghost use Rattle.sums.specs.Ready.{Ready};
 ghost use Rattle.mascon_tree.specs.Written.{Space, Written, Building};
 use boxes::halves;
@@ -202,18 +202,6 @@ fn header_words(file: &[u8], nodes: u32) -> [u32; 16]
     ]
 }
 
-// Sixteen words, from byte 0 on.
-fn out_words(out: &mut [u8], words: [u32; 16])
-    requires { ⌜ 64 ≤ length (now out) ⌝ }
-    ensures { λ _. ⌜ now (out .exit) ≡ splice (now (out .entry)) 0 (wordsBytes words) ⌝ }
-{
-    let mut i: usize = 0;
-    while i < 16 {
-        binary::out_u32(out, 4 * i, words[i]);
-        i += 1;
-    }
-}
-
 // Build, once 1 to 8 are passed and the lookup stands in the words.
 fn build_looked(file: &[u8], words: &[u32], out: &mut [u8], g: u32) -> Built
     requires { ⌜ Ready (now words) (now file) g ⌝ }
@@ -229,7 +217,7 @@ fn build_looked(file: &[u8], words: &[u32], out: &mut [u8], g: u32) -> Built
     }
     let frame = frame_of(file);
     let header = header_words(file, nodes);
-    out_words(out, header);
+    binary::out_words(out, header);
     build_mascon_node(out, words, file, g, frame, b, at, 0, 0);
     Built::Done(Counts {
         length: length as u64,

@@ -1,5 +1,5 @@
--- The starred models of 01 that concern narrowing, trees, refusals and edits, as one table. For trees the files stand as words, the trees whole, as the original
--- writes them; for edits as bytes.
+-- The starred models of 01 as one table. For trees the files stand as words, the trees whole, as the original writes them; for edits as bytes; crossings as
+-- binary64 patterns.
 use Prim.Native.Nat.{ℕ}
 use mathlib.Core.List.{List, [], _∷_, _++_}
 use Rattle.register.specs.Register.{Call, put, remove, undo}
@@ -11,6 +11,8 @@ pub data Row : Type 0 where
   builds : List ℕ → ℕ → ℕ → ℕ → ℕ → List ℕ → Row
   -- a buffer of bytes with an opened file, and a journal; calls; the answers, and what is left in the two
   edits : List ℕ → List ℕ → List Call → List ℕ → List ℕ → List ℕ → Row
+  -- crossings, in whatever order; those that remain; 1 for inside, 0 for outside
+  thins : List ℕ → List ℕ → ℕ → Row
 
 -- the bytes of a header at g 2, with the count's lowest byte
 abbrev headed : ℕ → List ℕ
@@ -66,4 +68,7 @@ table =
     (96 ∷ 80 ∷ 96 ∷ 80 ∷ [])
     (headed 1 ++ (right ++ zeros))
     (0 ∷ 0 ∷ 0 ∷ 0 ∷ 0 ∷ 0 ∷ 0 ∷ [])
+    -- crossings 10, 10.000009, 10.000018: two remain, outside
+    ∷ thins (0x4024000000000000 ∷ 0x402400012dfd694d ∷ 0x402400025bfad29a ∷ []) (0x4024000000000000 ∷ 0x402400025bfad29a ∷ []) 0
+    ∷ thins (0x402400025bfad29a ∷ 0x4024000000000000 ∷ 0x402400012dfd694d ∷ []) (0x4024000000000000 ∷ 0x402400025bfad29a ∷ []) 0
     ∷ []

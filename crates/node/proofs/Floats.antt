@@ -7,13 +7,12 @@ use native.Mathlib.Omega.{arith}
 use lib.ListN.{length, getD, take}
 use lib.Seq.{length-take-le, take-suc}
 use lib.Ieee.{Float, nan}
-use Rattle.float.specs.Number.{scalarMax}
+use Rattle.float.specs.Number.{scalarMax, num}
 use Rattle.rym1.specs.Bytes.{splice}
 use Rattle.rym1.proofs.Bytes.{splice-splice}
 use Rattle.rtm1.specs.declared.Cells.{Cells}
 use Rattle.rtm1.specs.declared.Frame.{Frame}
 use Rattle.rtm1.specs.declared.Sums.{Sums}
-use Rattle.rtm1.specs.Visit.{num}
 use Rattle.rtm1.specs.Node.{centre, constantCentre, centreOf, halfOn, halfOf, metricCom, nodeFloats, floatBytes, floatsBytes}
 use Rattle.rtm1.proofs.Node.{length-float, length-floats}
 

@@ -13,6 +13,7 @@ use Rattle.rym1.specs.declared.Cause.{Cause}
 use Rattle.rym1.specs.declared.Cause.the-variants.{Nothing, FileShort, MarkWrong, GridOutside, RecordsMissing, HeaderFloat}
 use Rattle.rym1.specs.declared.Cause.the-variants.{CoordinateOutside, MassNotFinite, ScratchShort, OutputShort, NotWorking}
 use Rattle.rym1.specs.declared.Cause.the-variants.{JournalWrong, CellEmpty, JournalFull, BufferFull, NoEntry, EntryWrong}
+use Rattle.rym1.specs.declared.Cause.the-variants.{ListWrong, CapacityExceeded, BoxFlat, FloatNotFinite}
 use Rattle.rym1.specs.Bytes.{word32}
 use Rattle.rym1.specs.Causes.{number}
 use Rattle.rym1.specs.File.{finite, allFinite, headerFloats, density, volume, scale, boxMin, boxMax}
@@ -27,7 +28,7 @@ tested F e1 e2 e3 = ap F (sym e2) ∙ sym e1 ∙ e3
 
 -- the tags of all cases but the first, which alone has the number 0
 abbrev pub others : List ℕ
-others = 1 ∷ 2 ∷ 3 ∷ 4 ∷ 5 ∷ 6 ∷ 7 ∷ 8 ∷ 9 ∷ 10 ∷ 11 ∷ 12 ∷ 13 ∷ 14 ∷ 15 ∷ 16 ∷ []
+others = 1 ∷ 2 ∷ 3 ∷ 4 ∷ 5 ∷ 6 ∷ 7 ∷ 8 ∷ 9 ∷ 10 ∷ 11 ∷ 12 ∷ 13 ∷ 14 ∷ 15 ∷ 16 ∷ 17 ∷ 18 ∷ 19 ∷ 20 ∷ []
 
 pub not-first : (k : Cause) → OneOf others (tagOf the-type k) → not (eqb (number k) 0) ≡ true
 unfolding number
@@ -48,6 +49,10 @@ not-first JournalFull o = refl
 not-first BufferFull o = refl
 not-first NoEntry o = refl
 not-first EntryWrong o = refl
+not-first ListWrong o = refl
+not-first CapacityExceeded o = refl
+not-first BoxFlat o = refl
+not-first FloatNotFinite o = refl
 
 -- what `is_refused` answers
 pub refused : (k : ℕ) {r : Bool} → r ≡ not (eqb k 0) → r ≡ true → 0 < k

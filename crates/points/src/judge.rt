@@ -27,7 +27,7 @@ pub fn is_refused(cause: Cause) -> bool
 }
 
 // The pattern of a finite float.
-fn is_finite(pattern: u32) -> bool
+pub fn is_finite(pattern: u32) -> bool
     ensures { λ r. ⌜ r ≡ finite pattern ⌝ }
 {
     float::pattern::is_finite32(pattern)

@@ -1,8 +1,10 @@
-// A point file's fields and records, read by name.
+// A point file's fields and records, read by name, and a record written.
 ghost use mathlib.Core.Path.{_≡_};
 ghost use Prim.Native.Nat.{_+_, _≤_, _<_};
 ghost use lib.ListN.{length};
-ghost use Rattle.rym1.specs.File.{grid, count, pointAt, cell, cube};
+ghost use Rattle.rym1.specs.Bytes.{splice};
+ghost use Rattle.rym1.specs.File.{grid, count, pointAt, pointBytes, cell, cube};
+ghost use Rattle.rym1.specs.Cells.{cellPoint};
 ghost use Rattle.rym1.proofs.Accepted.{Inside};
 use rym1::Point;
 
@@ -50,4 +52,32 @@ pub fn cell_number(g: u32, x: u32, y: u32, z: u32) -> u32
     ensures { λ r. ⌜ (r ≡ cell g x y z) × (r < cube g) ⌝ }
 {
     (z * g + y) * g + x
+}
+
+// The record of a cell of the grid, by its number.
+pub fn cell_point(g: u32, c: u32, cauchy: u32, elliptic: u32) -> Point
+    requires { ⌜ 0 < g ⌝ }
+    ensures { λ r. ⌜ r ≡ cellPoint g c (record { cauchy = cauchy; elliptic = elliptic }) ⌝ }
+{
+    Point {
+        x: c % g,
+        y: c / g % g,
+        z: c / g / g,
+        pad: 0,
+        cauchy,
+        elliptic,
+    }
+}
+
+// A record at a byte.
+pub fn out_point(file: &mut [u8], at: usize, p: Point)
+    requires { ⌜ at + 16 ≤ length (now file) ⌝ }
+    ensures { λ _. ⌜ now (file .exit) ≡ splice (now (file .entry)) at (pointBytes p) ⌝ }
+{
+    binary::out_u16(file, at, p.x);
+    binary::out_u16(file, at + 2, p.y);
+    binary::out_u16(file, at + 4, p.z);
+    binary::out_u16(file, at + 6, p.pad);
+    binary::out_u32(file, at + 8, p.cauchy);
+    binary::out_u32(file, at + 12, p.elliptic);
 }

@@ -5,7 +5,7 @@ use mathlib.Core.List.{List, [], _∷_, _++_}
 use native.Mathlib.Omega.{arith}
 use lib.ListN.{length, take}
 use lib.Dec.{ltb}
-use Rattle.rym1.specs.Bytes.{splice}
+use Rattle.rym1.specs.Bytes.{splice, wordsBytes}
 use Rattle.rym1.specs.Causes.{when, first, Outcome, outcome, refuse}
 use Rattle.rym1.specs.File.{grid, count, density, volume, scale, boxMin, boxMax, cube, fileCause}
 use Rattle.rym1.specs.Cells.{look, records}
@@ -14,7 +14,7 @@ use Rattle.rym1.proofs.Opened.{header-laid}
 use Rattle.rym1.proofs.Changes.{Laid, laid-grid, laid-cause}
 use Rattle.rtm1.specs.Tree.{Tree, tree, nodeCount, order}
 use Rattle.rtm1.specs.Node.{least, cellSize, frameOf, nodesBytes}
-use Rattle.rtm1.specs.Build.{wordsBytes, headerWords, treeBytes, treeLength, fileTree, Output, output, buildCause, build}
+use Rattle.rtm1.specs.Build.{headerWords, treeBytes, treeLength, fileTree, Output, output, buildCause, build}
 use Rattle.tree_laws.proofs.Theorems.{root-same}
 use Rattle.register.specs.Register.{Register, headerOf, slots, treeOf, built}
 use Rattle.register.proofs.Plain.{header-of}

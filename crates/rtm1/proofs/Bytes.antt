@@ -1,47 +1,17 @@
--- Laws of words and records as bytes: how long they are, and how a loop lays words on end. Assumes nothing.
-use Prim.Native.Nat.{ℕ, _+_, _*_, _≤_, _<_}
-use mathlib.Core.Path.{_≡_, refl, sym, ap, _∙_}
-use mathlib.Core.List.{List, [], _∷_, _++_, append-assoc}
-use native.Mathlib.Numerals.{add-one}
+-- Laws of records as bytes: how long they are. Assumes nothing.
+use Prim.Native.Nat.{ℕ, _+_, _*_}
+use mathlib.Core.Path.{_≡_, refl, ap, _∙_}
+use mathlib.Core.List.{List, _++_}
 use native.Mathlib.Omega.{arith}
-use lib.ListN.{length, getD, take, length-append}
-use lib.Seq.{length-take-le, take-suc}
-use Rattle.rym1.specs.Bytes.{le, splice}
-use Rattle.rym1.proofs.Bytes.{length-le, splice-splice}
+use lib.ListN.{length, length-append}
+use Rattle.rym1.specs.Bytes.{wordsBytes}
+use Rattle.rym1.proofs.Bytes.{length-words}
 use Rattle.rtm1.specs.declared.Frame.{Frame}
 use Rattle.rtm1.specs.Visit.{nothing}
 use Rattle.rtm1.specs.Tree.{Tree, empty, leaf, split, nodeCount, order, occupied}
 use Rattle.rtm1.specs.Node.{frameOf, minusOne, link, nodeFloats, floatsBytes, nodesBytes}
-use Rattle.rtm1.specs.Build.{wordsBytes, headerWords, treeBytes, treeLength}
+use Rattle.rtm1.specs.Build.{headerWords, treeBytes, treeLength}
 use Rattle.rtm1.proofs.Node.{length-node-bytes}
-
--- ---- words
-
-pub length-words : (ws : List ℕ) → length (wordsBytes ws) ≡ 4 * length ws
-unfolding wordsBytes
-length-words [] = refl
-length-words (w ∷ ws) = let rest = length-words ws in omega (arith, length-append (le 4 w) (wordsBytes ws), length-le 4 w)
-
-pub words-append : (a b : List ℕ) → wordsBytes (a ++ b) ≡ wordsBytes a ++ wordsBytes b
-unfolding wordsBytes
-words-append [] b = refl
-words-append (w ∷ a) b = rw (words-append a b) (sym (append-assoc (le 4 w) (wordsBytes a) (wordsBytes b)))
-
--- one word
-one-word : (w : ℕ) → wordsBytes (w ∷ []) ≡ le 4 w
-unfolding wordsBytes le
-one-word w = refl
-
--- a loop that writes the words of a list one by one
-pub words-more : (s : List ℕ) (at : ℕ) (ws : List ℕ) (i k : ℕ) → i < length ws → at + 4 * length ws ≤ length s → k ≡ at + 4 * i
-    → splice (splice s at (wordsBytes (take i ws))) k (le 4 (getD ws i 0)) ≡ splice s at (wordsBytes (take (i + 1) ws))
-words-more s at ws i k h room e =
-    let long : length (wordsBytes (take i ws)) ≡ 4 * i = length-words (take i ws) ∙ ap (λ (n : ℕ). 4 * n) (length-take-le i ws (omega arith)) in
-    let more : take (i + 1) ws ≡ take i ws ++ (getD ws i 0 ∷ []) = rw (add-one i) (take-suc ws i 0 h) in
-    let bytes : wordsBytes (take (i + 1) ws) ≡ wordsBytes (take i ws) ++ le 4 (getD ws i 0) =
-    ap wordsBytes more ∙ words-append (take i ws) (getD ws i 0 ∷ []) ∙ ap (λ (l : List ℕ). wordsBytes (take i ws) ++ l) (one-word (getD ws i 0)) in
-    rw bytes
-    (splice-splice s at (wordsBytes (take i ws)) (le 4 (getD ws i 0)) k (omega (arith, length-le 4 (getD ws i 0))) (omega arith))
 
 -- ---- records
 

@@ -3,7 +3,7 @@ use Prim.Native.Nat.{ℕ, _+_, _*_}
 use mathlib.Core.List.{List, [], _∷_, _++_}
 use lib.ListN.{length}
 use lib.Dec.{ltb}
-use Rattle.rym1.specs.Bytes.{le32, splice}
+use Rattle.rym1.specs.Bytes.{wordsBytes, splice}
 use Rattle.rym1.specs.Causes.{number, when, first, Outcome, outcome, refuse}
 use Rattle.rym1.specs.File.{grid, count, density, volume, scale, boxMin, boxMax, cube, fileCause}
 use Rattle.rym1.specs.Cells.{look}
@@ -11,10 +11,6 @@ use Rattle.rtm1.specs.declared.Built.{Built}
 use Rattle.rtm1.specs.declared.Built.the-variants.{Refused, Done}
 use Rattle.rtm1.specs.Tree.{Tree, tree, nodeCount, order}
 use Rattle.rtm1.specs.Node.{frameOf, nodesBytes}
-
-unfoldable pub wordsBytes : List ℕ → List ℕ
-wordsBytes [] = []
-wordsBytes (w ∷ ws) = le32 w ++ wordsBytes ws
 
 -- f: a point file, of which the header alone is read; n: the node count. Floats keep their bits; scale, density and volume stand in this order here.
 unfoldable pub headerWords : List ℕ → ℕ → List ℕ

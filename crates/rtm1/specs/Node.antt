@@ -5,13 +5,13 @@ use mathlib.Core.List.{List, [], _∷_, _++_}
 use lib.ListN.{length, getD}
 use lib.Ieee.{Float, binary32, binary64, nan, add, sub, mul, div, lt, ofBits, toBits}
 use Rattle.float.specs.Narrow.{narrow64}
-use Rattle.float.specs.Number.{abs, scalarMax}
+use Rattle.float.specs.Number.{abs, scalarMax, num}
 use Rattle.rym1.specs.Bytes.{le32}
 use Rattle.rym1.specs.File.{grid, boxMin, boxMax}
 use Rattle.rtm1.specs.declared.Cells.{Cells}
 use Rattle.rtm1.specs.declared.Frame.{Frame}
 use Rattle.rtm1.specs.declared.Sums.{Sums}
-use Rattle.rtm1.specs.Visit.{num, zero3, nothing}
+use Rattle.rtm1.specs.Visit.{zero3, nothing}
 use Rattle.rtm1.specs.Tree.{Tree, empty, leaf, split, nodeCount, order, occupied}
 
 -- 0.5, 1e-30, −1

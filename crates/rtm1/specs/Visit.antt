@@ -3,8 +3,8 @@
 use Prim.Native.Nat.{ℕ, zero, suc, _+_}
 use mathlib.Core.List.{List, [], _∷_, _++_}
 use lib.ListN.{getD}
-use lib.IntN.{pos}
-use lib.Ieee.{Float, binary32, binary64, nan, add, mul, ofInt, ofBits}
+use lib.Ieee.{Float, binary32, binary64, nan, add, mul, ofBits}
+use Rattle.float.specs.Number.{num}
 use Rattle.rym1.specs.File.{cell}
 use Rattle.rym1.specs.Cells.{Slot, vacant, held}
 use Rattle.rtm1.specs.declared.Cells.{Cells}
@@ -46,10 +46,6 @@ abbrev pub visit : (ℕ → Slot) → ℕ → Cells → List Placed
 visit look g b = run (plane look g b) (b .z0) (width Z b)
 
 -- ---- sums
-
--- a whole number as a binary64
-abbrev pub num : ℕ → Float
-num n = ofInt binary64 (pos n)
 
 abbrev pub zero3 : List Float
 zero3 = ofBits binary64 0 ∷ ofBits binary64 0 ∷ ofBits binary64 0 ∷ []

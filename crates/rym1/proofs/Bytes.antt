@@ -7,9 +7,9 @@ use native.Mathlib.Numerals.{add-one, towards-suc}
 use native.Mathlib.Omega.{arith}
 use lib.ListN.{length, getD, set, take, drop, length-append, length-drop, take-append-drop, List·getD-append}
 use lib.Seq.{sets, sets-eq, length-take-le, take-at, drop-at, take-append-le, drop-append-le, take-append-add, drop-append-add, drop-drop, take-add}
-use lib.Seq.{take-take, drop-cons, getD-take, getD-drop, getD-append-add}
+use lib.Seq.{take-suc, take-take, drop-cons, getD-take, getD-drop, getD-append-add}
 use lib.Arith.{digits-div, digits-mod, mod-mul}
-use Rattle.rym1.specs.Bytes.{word, le, splice}
+use Rattle.rym1.specs.Bytes.{word, le, wordsBytes, splice}
 
 -- every element is a byte
 abbrev pub AllBytes : List ℕ → Type 0
@@ -272,6 +272,11 @@ pub store4 : (s : List ℕ) (at a b c d : ℕ) → at + 4 ≤ length s
     → set (set (set (set s at a) (at + 1) b) (at + 2) c) (at + 3) d ≡ splice s at (a ∷ b ∷ c ∷ d ∷ [])
 store4 s at a b c d h = simp towards-suc (stores s at (a ∷ b ∷ c ∷ d ∷ []) h)
 
+-- two splices on end: the second right behind the first
+pub behind : (s : List ℕ) {s₁ s₂ : List ℕ} (at : ℕ) (u v : List ℕ) (k : ℕ) → at + length u + length v ≤ length s → at + length u ≡ k
+    → s₁ ≡ splice s at u → s₂ ≡ splice s₁ k v → s₂ ≡ splice s at (u ++ v)
+behind s at u v k h e e₁ e₂ = e₂ ∙ ap (λ (l : List ℕ). splice l k v) e₁ ∙ splice-splice s at u v k h e
+
 -- a store right behind a splice
 pub splice-snoc : (s : List ℕ) (at : ℕ) (new : List ℕ) (v k : ℕ) → at + length new < length s → at + length new ≡ k → set (splice s at new) k v ≡ splice s at (new ++ (v ∷ []))
 splice-snoc s at new v k h e =
@@ -299,3 +304,31 @@ splice-in s at u k v h b =
     let d = drop (at + length u) s in
     let right = rw long at (splice-append-right p (u ++ d) k v) in
     right ∙ ap (λ (l : List ℕ). p ++ l) (splice-append-left u d k v b) ∙ rw (length-splice u k v b)
+
+-- ---- words
+
+pub length-words : (ws : List ℕ) → length (wordsBytes ws) ≡ 4 * length ws
+unfolding wordsBytes
+length-words [] = refl
+length-words (w ∷ ws) = let rest = length-words ws in omega (arith, length-append (le 4 w) (wordsBytes ws), length-le 4 w)
+
+pub words-append : (a b : List ℕ) → wordsBytes (a ++ b) ≡ wordsBytes a ++ wordsBytes b
+unfolding wordsBytes
+words-append [] b = refl
+words-append (w ∷ a) b = rw (words-append a b) (sym (append-assoc (le 4 w) (wordsBytes a) (wordsBytes b)))
+
+-- one word
+one-word : (w : ℕ) → wordsBytes (w ∷ []) ≡ le 4 w
+unfolding wordsBytes le
+one-word w = refl
+
+-- a loop that writes the words of a list one by one
+pub words-more : (s : List ℕ) (at : ℕ) (ws : List ℕ) (i k : ℕ) → i < length ws → at + 4 * length ws ≤ length s → k ≡ at + 4 * i
+    → splice (splice s at (wordsBytes (take i ws))) k (le 4 (getD ws i 0)) ≡ splice s at (wordsBytes (take (i + 1) ws))
+words-more s at ws i k h room e =
+    let long : length (wordsBytes (take i ws)) ≡ 4 * i = length-words (take i ws) ∙ ap (λ (n : ℕ). 4 * n) (length-take-le i ws (omega arith)) in
+    let more : take (i + 1) ws ≡ take i ws ++ (getD ws i 0 ∷ []) = rw (add-one i) (take-suc ws i 0 h) in
+    let bytes : wordsBytes (take (i + 1) ws) ≡ wordsBytes (take i ws) ++ le 4 (getD ws i 0) =
+    ap wordsBytes more ∙ words-append (take i ws) (getD ws i 0 ∷ []) ∙ ap (λ (l : List ℕ). wordsBytes (take i ws) ++ l) (one-word (getD ws i 0)) in
+    rw bytes
+    (splice-splice s at (wordsBytes (take i ws)) (le 4 (getD ws i 0)) k (omega (arith, length-le 4 (getD ws i 0))) (omega arith))

@@ -6,9 +6,9 @@ use native.Mathlib.Nat.{add-zero, add-assoc}
 use native.Mathlib.Omega.{arith}
 use lib.ListN.{length, take, drop, length-append}
 use Rattle.rym1.specs.declared.Point.{Point}
-use Rattle.rym1.specs.Bytes.{word, le}
+use Rattle.rym1.specs.Bytes.{word, le, splice}
 use Rattle.rym1.specs.File.{pointAt, pointsAt, pointBytes, pointsBytes}
-use Rattle.rym1.proofs.Bytes.{AllBytes, le-word, word-append-left, word-append-right, word-le-fits, part-part}
+use Rattle.rym1.proofs.Bytes.{AllBytes, le-word, word-append-left, word-append-right, word-le-fits, behind, part-part}
 
 -- each number fits its bytes
 pub record Fits (p : Point) : Type 0 where
@@ -117,3 +117,20 @@ points-bytes f at zero all h = refl
 points-bytes f at (suc n) all h =
     let more : 16 * suc n ≡ 16 + 16 * n = omega arith in
     rw (point-bytes f at all (omega arith), points-bytes f (at + 16) n all (omega arith), more) (part-part 16 (16 * n) f at)
+
+-- ---- a record written
+
+pub point-stores : (s s₁ s₂ s₃ s₄ s₅ s₆ : List ℕ) (at : ℕ) (p : Point) → at + 16 ≤ length s → s₁ ≡ splice s at (le 2 (p .x)) → s₂ ≡ splice s₁ (at + 2) (le 2 (p .y))
+    → s₃ ≡ splice s₂ (at + 4) (le 2 (p .z)) → s₄ ≡ splice s₃ (at + 6) (le 2 (p .pad)) → s₅ ≡ splice s₄ (at + 8) (le 4 (p .cauchy)) → s₆ ≡ splice s₅ (at + 12) (le 4 (p .elliptic))
+    → s₆ ≡ splice s at (pointBytes p)
+unfolding pointBytes le
+point-stores s s₁ s₂ s₃ s₄ s₅ s₆ at p h e₁ e₂ e₃ e₄ e₅ e₆ =
+    let x = le 2 (p .x) in
+    let y = le 2 (p .y) in
+    let z = le 2 (p .z) in
+    let pad = le 2 (p .pad) in
+    let d₂ = behind s at x y (at + 2) (omega arith) refl e₁ e₂ in
+    let d₃ = behind s at (x ++ y) z (at + 4) (omega arith) refl d₂ e₃ in
+    let d₄ = behind s at (x ++ (y ++ z)) pad (at + 6) (omega arith) refl d₃ e₄ in
+    let d₅ = behind s at (x ++ (y ++ (z ++ pad))) (le 4 (p .cauchy)) (at + 8) (omega arith) refl d₄ e₅ in
+    behind s at (x ++ (y ++ (z ++ (pad ++ le 4 (p .cauchy))))) (le 4 (p .elliptic)) (at + 12) (omega arith) refl d₅ e₆

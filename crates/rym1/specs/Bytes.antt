@@ -32,6 +32,11 @@ le32 n = le 4 n
 abbrev pub le64 : ℕ → List ℕ
 le64 n = le 8 n
 
+-- words on end
+unfoldable pub wordsBytes : List ℕ → List ℕ
+wordsBytes [] = []
+wordsBytes (w ∷ ws) = le32 w ++ wordsBytes ws
+
 -- s with `new` in the place of as many elements from `at` on: nothing else changes
 unfoldable pub splice : List ℕ → ℕ → List ℕ → List ℕ
 splice s at new = take at s ++ (new ++ drop (at + length new) s)

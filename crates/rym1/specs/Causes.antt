@@ -5,6 +5,7 @@ use Rattle.rym1.specs.declared.Cause.{Cause}
 use Rattle.rym1.specs.declared.Cause.the-variants.{Nothing, FileShort, MarkWrong, GridOutside, RecordsMissing, HeaderFloat}
 use Rattle.rym1.specs.declared.Cause.the-variants.{CoordinateOutside, MassNotFinite, ScratchShort, OutputShort, NotWorking}
 use Rattle.rym1.specs.declared.Cause.the-variants.{JournalWrong, CellEmpty, JournalFull, BufferFull, NoEntry, EntryWrong}
+use Rattle.rym1.specs.declared.Cause.the-variants.{ListWrong, CapacityExceeded, BoxFlat, FloatNotFinite}
 use Rattle.rym1.specs.declared.Answer.{Answer}
 use Rattle.rym1.specs.declared.Answer.the-variants.{Refused, Length}
 
@@ -27,6 +28,10 @@ number JournalFull = 13
 number BufferFull = 14
 number NoEntry = 15
 number EntryWrong = 16
+number ListWrong = 17
+number CapacityExceeded = 18
+number BoxFlat = 19
+number FloatNotFinite = 20
 
 -- an answer as one number: below 64 a refusal's, else a length in bytes
 unfoldable pub told : Answer → ℕ

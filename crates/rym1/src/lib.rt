@@ -29,6 +29,10 @@ pub enum Cause {
     BufferFull,
     NoEntry,
     EntryWrong,
+    ListWrong,
+    CapacityExceeded,
+    BoxFlat,
+    FloatNotFinite,
 }
 
 // What a call answers: why it is refused, or the length in bytes of what it wrote.

@@ -5,12 +5,10 @@ use mathlib.Core.List.{List, [], _∷_, _++_, append-nil, map-append}
 use native.Mathlib.Nat.{add-zero}
 use native.Mathlib.Omega.{arith}
 use lib.ListN.{length, length-map}
-use Rattle.rym1.specs.Bytes.{le, splice}
-use Rattle.rym1.proofs.Bytes.{length-splice, splice-none, splice-splice}
+use Rattle.rym1.specs.Bytes.{le, splice, wordsBytes}
+use Rattle.rym1.proofs.Bytes.{length-splice, splice-none, splice-splice, length-words, words-append}
 use Rattle.rtm1.specs.Visit.{Placed, run}
 use Rattle.rtm1.specs.Tree.{indices}
-use Rattle.rtm1.specs.Build.{wordsBytes}
-use Rattle.rtm1.proofs.Bytes.{length-words, words-append}
 use Rattle.sums.specs.Ready.{Room, Ordered}
 use Rattle.sums.proofs.Turns.{run-first, run-none, length-first, length-none}
 

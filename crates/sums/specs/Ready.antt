@@ -3,12 +3,11 @@ use Prim.Native.Nat.{ℕ, _+_, _*_, _≤_}
 use mathlib.Core.Path.{_≡_}
 use mathlib.Core.List.{List}
 use lib.ListN.{length}
-use Rattle.rym1.specs.Bytes.{splice}
+use Rattle.rym1.specs.Bytes.{splice, wordsBytes}
 use Rattle.rym1.specs.File.{grid, fileCause}
 use Rattle.points.specs.Lookup.{Looked}
 use Rattle.rtm1.specs.Visit.{Placed}
 use Rattle.rtm1.specs.Tree.{indices}
-use Rattle.rtm1.specs.Build.{wordsBytes}
 
 -- the words are the lookup of a file of grid g that is not refused
 pub record Ready (words f : List ℕ) (g : ℕ) : Type 0 where

@@ -3,13 +3,12 @@ use mathlib.Core.Path.{sym, ap, _∙_, subst}
 use mathlib.Core.List.{List}
 use Prim.Native.Nat.{ℕ, _+_, _*_}
 use native.Mathlib.Omega.{arith}
-use Rattle.rym1.specs.Bytes.{splice}
+use Rattle.rym1.specs.Bytes.{splice, wordsBytes}
 use Rattle.rym1.proofs.Accepted.{accepted}
 use Rattle.rtm1.specs.declared.Frame.{Frame}
 use Rattle.rym1.specs.Cells.{look}
 use Rattle.rtm1.specs.Tree.{Tree, treeOf}
 use Rattle.rtm1.specs.Node.{frameOf}
-use Rattle.rtm1.specs.Build.{wordsBytes}
 use Rattle.mascon_tree.specs.Written.{Space, Written}
 use Rattle.mascon_tree.proofs.Counted.{root-within, root}
 use Rattle.mascon_tree.proofs.Outcomes.{way-9, root-room, way-done}

@@ -2,7 +2,7 @@
 use mathlib.Core.Path.{ap, _∙_}
 use lib.Ieee.{binary32, binary64, sub, div, ofBits}
 use Rattle.rym1.specs.File.{grid, boxMax}
-use Rattle.rtm1.specs.Visit.{num}
+use Rattle.float.specs.Number.{num}
 use Rattle.rtm1.specs.Node.{cellSize}
 use borrow.Author.Needs.{needs}
 use Rattle.node.proofs.cell_size.Statement.{statement}

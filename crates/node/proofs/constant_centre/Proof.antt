@@ -2,7 +2,7 @@
 use Prim.Native.Nat.{ℕ, suc, _-_}
 use mathlib.Core.Path.{_≡_, sym, ap, _∙_}
 use native.Mathlib.Omega.{arith}
-use Rattle.rtm1.specs.Visit.{num}
+use Rattle.float.specs.Number.{num}
 use Rattle.rtm1.specs.Node.{over, constantCentre}
 use borrow.Author.Needs.{needs}
 use Rattle.node.proofs.constant_centre.Statement.{statement}

@@ -2,7 +2,7 @@
 use mathlib.Core.Path.{sym, ap}
 use mathlib.Core.Bool.{Bool, cond}
 use lib.Ieee.{neg, ofBits}
-use Rattle.rtm1.specs.Visit.{num}
+use Rattle.float.specs.Number.{num}
 use Rattle.rtm1.specs.Node.{minusOne}
 use borrow.Author.Needs.{needs}
 use Rattle.node.proofs.link.Statement.{statement}

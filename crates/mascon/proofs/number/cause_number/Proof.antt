@@ -56,6 +56,18 @@ enum-told-16 c = search needs
 enum-told-17 : tie.Need-enum-told-17
 enum-told-17 c = search needs
 
+enum-told-18 : tie.Need-enum-told-18
+enum-told-18 c = search needs
+
+enum-told-19 : tie.Need-enum-told-19
+enum-told-19 c = search needs
+
+enum-told-20 : tie.Need-enum-told-20
+enum-told-20 c = search needs
+
+enum-told-21 : tie.Need-enum-told-21
+enum-told-21 c = search needs
+
 returns : tie.Need-returns
 unfolding number
 returns c = sym (ap number (c .enum-told .given .1))
@@ -124,6 +136,22 @@ returns-17 : tie.Need-returns-17
 unfolding number
 returns-17 c = sym (ap number (c .enum-told17 .given .1))
 
+returns-18 : tie.Need-returns-18
+unfolding number
+returns-18 c = sym (ap number (c .enum-told18 .given .1))
+
+returns-19 : tie.Need-returns-19
+unfolding number
+returns-19 c = sym (ap number (c .enum-told19 .given .1))
+
+returns-20 : tie.Need-returns-20
+unfolding number
+returns-20 c = sym (ap number (c .enum-told20 .given .1))
+
+returns-21 : tie.Need-returns-21
+unfolding number
+returns-21 c = sym (ap number (c .enum-told21 .given .1))
+
 pub cause-number-spec : {M : Type 1} → statement M
 cause-number-spec =
     tie.close
@@ -145,6 +173,10 @@ cause-number-spec =
     enum-told-15
     enum-told-16
     enum-told-17
+    enum-told-18
+    enum-told-19
+    enum-told-20
+    enum-told-21
     returns
     returns-2
     returns-3
@@ -161,4 +193,8 @@ cause-number-spec =
     returns-14
     returns-15
     returns-16
-    returns-17)
+    returns-17
+    returns-18
+    returns-19
+    returns-20
+    returns-21)

@@ -1,8 +1,8 @@
--- `edits::moves::out_point` meets its contract: six numbers on end. Assumes nothing.
-use Rattle.edits.proofs.Moving.{point-stores}
+-- `points::records::out_point` meets its contract: six numbers on end. Assumes nothing.
+use Rattle.rym1.proofs.Points.{point-stores}
 use borrow.Author.Needs.{needs}
-use Rattle.edits.proofs.moves.out_point.Statement.{statement}
-use Rattle.edits.proofs.moves.out_point.Tie as tie
+use Rattle.points.proofs.records.out_point.Statement.{statement}
+use Rattle.points.proofs.records.out_point.Tie as tie
 
 out-u16-requires : tie.Need-out-u16-requires
 out-u16-requires c κs = search needs

@@ -1,9 +1,9 @@
--- `edits::cell_point` meets its contract. Assumes nothing.
+-- `points::records::cell_point` meets its contract. Assumes nothing.
 use mathlib.Core.Path.{refl}
 use Rattle.rym1.specs.Cells.{cellPoint}
 use borrow.Author.Needs.{needs}
-use Rattle.edits.proofs.cell_point.Statement.{statement}
-use Rattle.edits.proofs.cell_point.Tie as tie
+use Rattle.points.proofs.records.cell_point.Statement.{statement}
+use Rattle.points.proofs.records.cell_point.Tie as tie
 
 rem-t5 : tie.Need-rem-t5
 rem-t5 c = search needs

@@ -1,4 +1,4 @@
--- `mascon_tree::out_words` meets its contract: words one behind the other. Assumes nothing.
+-- `binary::out_words` meets its contract: words one behind the other. Assumes nothing.
 use borrow.Author.Needs.{needs}
 use Prim.Native.Nat.{ℕ, _*_, _-_, _≤_}
 use mathlib.Core.Path.{_≡_, refl, sym, ap, _∙_}
@@ -6,15 +6,13 @@ use mathlib.Core.List.{List}
 use native.Mathlib.Omega.{arith}
 use lib.ListN.{length, getD, take}
 use lib.Seq.{take-all}
-use Rattle.rym1.specs.Bytes.{le, splice}
-use Rattle.rym1.proofs.Bytes.{splice-none}
-use Rattle.rtm1.specs.Build.{wordsBytes}
-use Rattle.rtm1.proofs.Bytes.{words-more}
-use Rattle.mascon_tree.proofs.out_words.Statement.{statement}
-use Rattle.mascon_tree.proofs.out_words.Tie as tie
-use Rattle.mascon_tree.proofs.out_words.Reads as reads
-use Rattle.mascon_tree.proofs.out_words.Lts as lts
+use Rattle.rym1.specs.Bytes.{le, wordsBytes, splice}
+use Rattle.rym1.proofs.Bytes.{splice-none, words-more}
+use Rattle.binary.proofs.out_words.Statement.{statement}
+use Rattle.binary.proofs.out_words.Tie as tie
+use Rattle.binary.proofs.out_words.Reads as reads
+use Rattle.binary.proofs.out_words.Lts as lts
 use Rattle.binary.proofs.out_u32.Reads as out-u32-reads
 
 abbrev Inv-loop : tie.InvT-loop
 Inv-loop out₀ words i₀ out i = (i ≤ 16) × (length out ≡ length out₀) × (out ≡ splice out₀ 0 (wordsBytes (take i words)))
