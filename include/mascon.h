@@ -13,6 +13,31 @@ extern "C" {
    a NaN gives 0x7fc00000. Every x has an answer. */
 uint64_t mascon_narrow(double x);
 
+/* Whether a point lies inside a mesh: an odd number of the crossings of its ray along +X remains once near ones are thinned.
+   triangles: 72 bytes each, the corners a, b, c as little-endian binary64 x, y, z; floats: scratch, one per triangle.
+   Answers 0 outside, 1 inside, or the cause of a refusal: 17 a list that ends inside a triangle, not 1 to 2^20 triangles, a coordinate
+   above 1e6 in magnitude or no number, or the point's above 4e6; 8 fewer floats than triangles.
+   triangles is only read. A refusal changes no float; they are free otherwise. The two do not overlap. */
+uint64_t mascon_inside(const uint8_t *triangles, size_t triangles_length, double x, double y, double z,
+                       double *floats, size_t floats_length);
+
+/* Fills a mesh: the point file of the cells, g to an axis, whose middle lies inside, into out, in cell order, each with its two masses,
+   density times cell volume, by the two lists of kernels.
+   triangles and floats as in mascon_inside; a kernel is 40 bytes: centre x, y, z, sigma, weight w, as little-endian binary64, and adds
+   w / (1 + sigma^2 d^2) at distance d. Where target_mass is above 0, the masses of each list are scaled so that they add up to it.
+   Answers the length written, 64 + 16 per point, or a number below 64, the cause of a refusal, in this order:
+   3 g not 1 to 256; 17 a list that ends inside an entry, not 1 to 2^20 triangles, above 4,096 kernels, a coordinate or centre above 1e6 in
+   magnitude, sigma not 0 to 1e6, w, target_mass or constant_density above 1e30 in magnitude, any of them no number; 8 fewer floats than
+   triangles; 9 out under 64 + 16 * ((g^3 + 1) / 2) bytes; 19 the padded box is flat in binary32; 18 more points than half the cells,
+   rounded up; 20 a float to be written is not finite.
+   18 and 20 zero the whole of out; any other refusal changes no byte of it, and 3, 17 and 8 no float. Else out past the length is as it
+   was; the lists are only read; floats are free. None of the five overlaps another, but lists that are only read may be the same. */
+uint64_t mascon_fill(uint32_t g, const uint8_t *triangles, size_t triangles_length,
+                     const uint8_t *cauchy_kernels, size_t cauchy_kernels_length,
+                     const uint8_t *elliptic_kernels, size_t elliptic_kernels_length,
+                     double target_mass, double constant_density, double *floats, size_t floats_length,
+                     uint8_t *out, size_t out_length);
+
 /* Opens a point file: its working form (one record per occupied cell, ascending by cell number, pad 0) into out, journal[0] = 0.
    Answers the length written, 64 + 16 per occupied cell, or a number below 64, the cause of a refusal:
    1 under 64 bytes, 2 word 0 or version, 3 grid, 4 records missing, 5 a header float, 6 a coordinate, 7 a mass,

@@ -4,15 +4,21 @@ pub mod number;
 ghost use mathlib.Core.Path.{_≡_};
 ghost use Prim.Native.Nat.{_≤_};
 ghost use lib.ListN.{length};
+ghost use mathlib.Core.Bool.{true};
 ghost use lib.Ieee.{binary32, binary64, toBits};
 ghost use Rattle.float.specs.Narrow.{narrow64};
 ghost use Rattle.rym1.specs.Causes.{outcome};
 ghost use Rattle.rym1.specs.Open.{both, openFile};
 ghost use Rattle.rym1.specs.Edits.{put, remove, undo};
 ghost use Rattle.rtm1.specs.Build.{output, build};
+ghost use Rattle.filling.specs.Vector.{vec};
+ghost use Rattle.filling.specs.Inside.{inside};
+ghost use Rattle.filling.specs.Fill.{task, fill, early};
+use filling::Vec3;
 use number::MasconBuilt;
 use number::answer_number;
 use number::built_numbers;
+use number::side_number;
 
 // The pattern of the binary32 nearest to x, ties to even; a NaN gives 0x7fc00000.
 #[no_mangle]
@@ -20,6 +26,44 @@ pub extern "C" fn mascon_narrow(x: f64) -> u64
     ensures { λ r. ⌜ r ≡ narrow64 (toBits binary64 x) ⌝ }
 {
     float::narrow(x) as u64
+}
+
+// Whether a point lies inside a mesh: 0 no, 1 yes, else the refusal's number.
+#[no_mangle]
+pub extern "C" fn mascon_inside(triangles: &[u8], x: f64, y: f64, z: f64, floats: &mut [f64]) -> u64
+    ensures { λ r. ⌜ (r ≡ inside (now (triangles .entry)) (vec x y z) (length (now (floats .entry))))
+        × (8 ≤ r → now (floats .exit) ≡ now (floats .entry)) ⌝ }
+{
+    side_number(inside::inside(triangles, Vec3 { x, y, z }, floats))
+}
+
+// The point file of a mesh into `out`.
+#[no_mangle]
+pub extern "C" fn mascon_fill(
+    g: u32,
+    triangles: &[u8],
+    cauchy_kernels: &[u8],
+    elliptic_kernels: &[u8],
+    target_mass: f64,
+    constant_density: f64,
+    floats: &mut [f64],
+    out: &mut [u8],
+) -> u64
+    ensures { λ r. ⌜ (outcome r (now (out .exit))
+        ≡ fill (task g (now (triangles .entry)) (now («cauchy_kernels» .entry)) (now («elliptic_kernels» .entry)) «target_mass» «constant_density»)
+        (length (now (floats .entry))) (now (out .entry)))
+        × (early r ≡ true → now (floats .exit) ≡ now (floats .entry)) ⌝ }
+{
+    answer_number(mascon_grid::build_mascon(
+        g,
+        triangles,
+        cauchy_kernels,
+        elliptic_kernels,
+        target_mass,
+        constant_density,
+        floats,
+        out,
+    ))
 }
 
 // The working form of a point file into `out`, and a journal without an entry.

@@ -2,6 +2,8 @@
 ghost use mathlib.Core.Path.{_≡_};
 ghost use Rattle.rym1.specs.Causes.{number, told};
 ghost use Rattle.rtm1.specs.Build.{answerOf, nodesOf, orderOf};
+ghost use Rattle.filling.specs.Inside.{sideNumber};
+use filling::Side;
 use rtm1::Built;
 use rym1::Answer;
 use rym1::Cause;
@@ -40,6 +42,16 @@ pub fn answer_number(answer: Answer) -> u64
     match answer {
         Answer::Refused(cause) => cause_number(cause),
         Answer::Length(length) => length,
+    }
+}
+
+pub fn side_number(side: Side) -> u64
+    ensures { λ r. ⌜ r ≡ sideNumber side ⌝ }
+{
+    match side {
+        Side::Refused(cause) => cause_number(cause),
+        Side::Outside => 0,
+        Side::Inside => 1,
     }
 }
 

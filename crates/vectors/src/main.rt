@@ -1,10 +1,13 @@
 // Replays stored answers of the Rust oracle and says how many are the same. oracle/README.md says how they were made.
 mod built;
+mod crossed;
 mod edited;
+mod filled;
 mod narrowed;
 mod opened;
 mod parts;
 mod replay;
+mod sided;
 
 use replay::Kind;
 use replay::replay_file;
@@ -14,4 +17,7 @@ fn main() {
     replay_file(b"open", b"open.bin", Kind::Open);
     replay_file(b"build", b"build.bin", Kind::Build);
     replay_file(b"edit", b"edit.bin", Kind::Edit);
+    replay_file(b"ray", b"ray.bin", Kind::Ray);
+    replay_file(b"inside", b"inside.bin", Kind::Inside);
+    replay_file(b"fill", b"fill.bin", Kind::Fill);
 }

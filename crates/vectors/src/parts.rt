@@ -10,7 +10,7 @@ pub fn bytes() -> [u8; 1024]
     [0xa5; 1024]
 }
 
-// Room for a tree.
+// Room for a tree, or a filled file.
 pub fn tree_bytes() -> [u8; 3456]
     ensures { λ r. ⌜ 3456 ≡ length r ⌝ }
 {
@@ -22,6 +22,13 @@ pub fn words() -> [u32; 256]
     ensures { λ r. ⌜ 256 ≡ length r ⌝ }
 {
     [0xa5a5_a5a5; 256]
+}
+
+// The same of floats.
+pub fn floats() -> [f64; 32]
+    ensures { λ r. ⌜ 32 ≡ length r ⌝ }
+{
+    [0.5; 32]
 }
 
 pub fn copy_bytes(to: &mut [u8], case: &[u8], at: usize)

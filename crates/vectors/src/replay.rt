@@ -2,9 +2,12 @@
 // A further kind is a module with its size and its `is_same`, named in `case_size` and `is_same_case` below, and a line of `main`.
 ghost use Prim.Native.Nat.{_≤_};
 use crate::built;
+use crate::crossed;
 use crate::edited;
+use crate::filled;
 use crate::narrowed;
 use crate::opened;
+use crate::sided;
 use libc::STDOUT_FILENO;
 
 pub enum Kind {
@@ -12,6 +15,9 @@ pub enum Kind {
     Open,
     Build,
     Edit,
+    Ray,
+    Inside,
+    Fill,
 }
 
 // How many bytes a case takes.
@@ -23,6 +29,9 @@ fn case_size(kind: Kind) -> usize
         Kind::Open => opened::SIZE,
         Kind::Build => built::SIZE,
         Kind::Edit => edited::SIZE,
+        Kind::Ray => crossed::SIZE,
+        Kind::Inside => sided::SIZE,
+        Kind::Fill => filled::SIZE,
     }
 }
 
@@ -33,6 +42,9 @@ fn is_same_case(kind: Kind, case: &[u8]) -> bool {
         Kind::Open => opened::is_same(case),
         Kind::Build => built::is_same(case),
         Kind::Edit => edited::is_same(case),
+        Kind::Ray => crossed::is_same(case),
+        Kind::Inside => sided::is_same(case),
+        Kind::Fill => filled::is_same(case),
     }
 }
 

@@ -1,0 +1,4 @@
+pub mod Answers
+pub mod Listing
+pub mod Sorting
+pub mod Thinning

@@ -1,0 +1,13 @@
+-- `inside::accelerator::scaled` meets its contract: the result is the definition, opened; its 96 is the literal. Assumes nothing.
+use mathlib.Core.Path.{refl}
+use lib.Ieee.{ofInt, ofBits}
+use Rattle.filling.specs.Inside.{scaled}
+use Rattle.inside.proofs.accelerator.scaled.Statement.{statement}
+use Rattle.inside.proofs.accelerator.scaled.Tie as tie
+
+returns : tie.Need-returns
+unfolding scaled ofInt ofBits
+returns c = refl
+
+pub scaled-spec : {M : Type 1} → statement M
+scaled-spec = tie.close (tie.spec returns)

@@ -1,0 +1,5 @@
+pub mod Finished
+pub mod Raw
+pub mod Outcomes
+pub mod ScalingLoops
+pub mod Visiting

@@ -1,0 +1,2 @@
+pub mod Visited
+pub mod Scaled

@@ -1,0 +1,165 @@
+// Fill: the point file of a mesh (mascon_grid.rs).
+pub mod frame;
+pub mod scaling;
+pub mod visit;
+
+ghost use mathlib.Core.Path.{_≡_};
+ghost use mathlib.Core.Bool.{true};
+ghost use Prim.Native.Nat.{_+_, _*_, _≤_};
+ghost use lib.ListN.{length, replicate};
+ghost use Rattle.rym1.specs.declared.Answer.the-variants.{Refused};
+ghost use Rattle.rym1.specs.Causes.{told, outcome};
+ghost use Rattle.filling.specs.Lists.{mesh};
+ghost use Rattle.filling.specs.Inside.{testBox, bounds};
+ghost use Rattle.filling.specs.Frame as def;
+ghost use Rattle.filling.specs.Fill.{task, listsWrong, filled, fill, early};
+ghost use Rattle.mascon_grid.specs.Visited.{Ready};
+ghost use Rattle.mascon_grid.specs.Scaled.{finished};
+use density::kernels_wrong;
+use filling::Bounds;
+use filling::Frame;
+use frame::box_flat;
+use frame::frame_of;
+use inside::accelerator::bounds_of;
+use inside::accelerator::padded;
+use model::mesh_wrong;
+use model::up_to;
+use rym1::Answer;
+use rym1::Cause;
+use scaling::floats_finite;
+use scaling::header_of;
+use scaling::scale_masses;
+use scaling::scale_of;
+use visit::Found;
+use visit::Visit;
+use visit::capacity_of;
+use visit::visit_cells;
+
+// 17.
+fn lists_wrong(triangles: &[u8], cauchy: &[u8], elliptic: &[u8], target: f64, density: f64) -> bool
+    ensures { λ r. ⌜ r ≡ listsWrong (now (triangles .entry)) (now (cauchy .entry)) (now (elliptic .entry)) target density ⌝ }
+{
+    if mesh_wrong(triangles) {
+        return true;
+    }
+    if kernels_wrong(cauchy) {
+        return true;
+    }
+    if kernels_wrong(elliptic) {
+        return true;
+    }
+    if !up_to(1e30, target) {
+        return true;
+    }
+    !up_to(1e30, density)
+}
+
+// 18 and 20 zero the whole output.
+fn clear_refused(out: &mut [u8], cause: Cause) -> Answer
+    ensures { λ r. ⌜ (r ≡ Refused cause) × (now (out .exit) ≡ replicate (length (now (out .entry))) 0) ⌝ }
+{
+    binary::clear(out);
+    Answer::Refused(cause)
+}
+
+// The finds w, whose records stand in `out` from 64 on: scaled, judged, and the header before them.
+fn finish(out: &mut [u8], g: u32, f: Frame, w: Found, target: f64, density: f64) -> Answer
+    requires { ⌜ 64 + 16 * w .count ≤ length (now out) ⌝ }
+    ensures { λ r. ⌜ outcome (told r) (now (out .exit)) ≡ finished g f w target density (now (out .entry)) ⌝ }
+{
+    let count = w.count;
+    let k = float::narrow(scale_of(target, w.cauchy));
+    let l = float::narrow(scale_of(target, w.elliptic));
+    let header = header_of(g, f, w, target, density);
+    if !scale_masses(out, count, k, l) {
+        return clear_refused(out, Cause::FloatNotFinite);
+    }
+    if !floats_finite(header) {
+        return clear_refused(out, Cause::FloatNotFinite);
+    }
+    binary::out_words(out, header);
+    let length = 64 + 16 * (count as u64);
+    Answer::Length(length)
+}
+
+// Fill, once 3 to 19 are passed: f is the mesh's frame, b the inside test's box.
+fn fill_frame(
+    triangles: &[u8],
+    cauchy: &[u8],
+    elliptic: &[u8],
+    b: Bounds,
+    f: Frame,
+    g: u32,
+    target: f64,
+    density: f64,
+    floats: &mut [f64],
+    out: &mut [u8],
+) -> Answer
+    requires { ⌜ Ready (now triangles) g (now floats) (now out) ⌝ }
+    requires { ⌜ (b ≡ testBox (mesh (now triangles))) × (f ≡ def.frame (bounds (mesh (now triangles))) g) ⌝ }
+    ensures { λ r. ⌜ outcome (told r) (now (out .exit))
+        ≡ filled (task g (now (triangles .entry)) (now (cauchy .entry)) (now (elliptic .entry)) target density) (now (out .entry)) ⌝ }
+{
+    let visit = visit_cells(triangles, cauchy, elliptic, b, f, g, floats, out);
+    let Visit::Done(w) = visit else {
+        return clear_refused(out, Cause::CapacityExceeded);
+    };
+    finish(out, g, f, w, target, density)
+}
+
+// Fill: the point file of a mesh into `out`.
+pub fn build_mascon(
+    g: u32,
+    triangles: &[u8],
+    cauchy_kernels: &[u8],
+    elliptic_kernels: &[u8],
+    target_mass: f64,
+    constant_density: f64,
+    floats: &mut [f64],
+    out: &mut [u8],
+) -> Answer
+    ensures { λ r. ⌜ (outcome (told r) (now (out .exit))
+        ≡ fill (task g (now (triangles .entry)) (now («cauchy_kernels» .entry)) (now («elliptic_kernels» .entry)) «target_mass» «constant_density»)
+        (length (now (floats .entry))) (now (out .entry)))
+        × (early (told r) ≡ true → now (floats .exit) ≡ now (floats .entry)) ⌝ }
+{
+    if g == 0 {
+        return Answer::Refused(Cause::GridOutside);
+    }
+    if 256 < g {
+        return Answer::Refused(Cause::GridOutside);
+    }
+    if lists_wrong(
+        triangles,
+        cauchy_kernels,
+        elliptic_kernels,
+        target_mass,
+        constant_density,
+    ) {
+        return Answer::Refused(Cause::ListWrong);
+    }
+    if floats.len() < triangles.len() / 72 {
+        return Answer::Refused(Cause::ScratchShort);
+    }
+    if out.len() < 64 + 16 * (capacity_of(g) as usize) {
+        return Answer::Refused(Cause::OutputShort);
+    }
+    let bounds = bounds_of(triangles);
+    let frame = frame_of(bounds, g);
+    if box_flat(frame) {
+        return Answer::Refused(Cause::BoxFlat);
+    }
+    let b = padded(bounds);
+    fill_frame(
+        triangles,
+        cauchy_kernels,
+        elliptic_kernels,
+        b,
+        frame,
+        g,
+        target_mass,
+        constant_density,
+        floats,
+        out,
+    )
+}
