@@ -37,7 +37,7 @@ sorted-permutes (x ∷ l) = List·Permᴰ·trans (placed-permutes x (sorted l)) 
 
 -- ---- none below its predecessor, of any list
 
-differ : {A : Type 0} {b : Bool} → b ≡ false → b ≡ true → A
+pub differ : {A : Type 0} {b : Bool} → b ≡ false → b ≡ true → A
 differ p q = absurd (true≢false (sym q ∙ p))
 
 lt-asymmetric : (x y : Float) → lt x y ≡ true → lt y x ≡ false
@@ -84,7 +84,7 @@ sorted-chain (x ∷ l) = placed-chain x (sorted l) (sorted-chain l)
 
 -- ---- of a list above 0, each at most every later one
 
-over-zero : (a b : ℕ) → a < b → 0 < b
+pub over-zero : (a b : ℕ) → a < b → 0 < b
 over-zero a b h = omega arith
 
 above-zero : (x : Float) → lt zero64 x ≡ true → T (above x)
