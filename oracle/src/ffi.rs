@@ -1,5 +1,7 @@
 //! The proved library behind safe functions. All unsafe code of the crate is here.
 
+use crate::rule::fill::{Body, Point};
+
 unsafe extern "C" {
     // Takes and gives numbers, touches no memory: safe for every argument.
     safe fn mascon_narrow(x: f64) -> u64;
@@ -47,6 +49,32 @@ unsafe extern "C" {
         out: *mut u8,
         out_len: usize,
     ) -> Built;
+
+    fn mascon_inside(
+        triangles: *const u8,
+        triangles_len: usize,
+        x: f64,
+        y: f64,
+        z: f64,
+        floats: *mut f64,
+        floats_len: usize,
+    ) -> u64;
+
+    fn mascon_fill(
+        g: u32,
+        triangles: *const u8,
+        triangles_len: usize,
+        cauchy_kernels: *const u8,
+        cauchy_kernels_len: usize,
+        elliptic_kernels: *const u8,
+        elliptic_kernels_len: usize,
+        target_mass: f64,
+        constant_density: f64,
+        floats: *mut f64,
+        floats_len: usize,
+        out: *mut u8,
+        out_len: usize,
+    ) -> u64;
 }
 
 /// What build answers: the length written, or the number of a cause; node and order counts, both 0 in a refusal.
@@ -150,6 +178,44 @@ pub(crate) fn build(file: &[u8], scratch: &mut [u32], out: &mut [u8]) -> Built {
             file.len(),
             scratch.as_mut_ptr(),
             scratch.len(),
+            out.as_mut_ptr(),
+            out.len(),
+        )
+    }
+}
+
+/// Whether a point is inside a mesh: 1 for yes, 0 for no, or the number of a cause.
+pub(crate) fn inside(triangles: &[u8], [x, y, z]: Point, floats: &mut [f64]) -> u64 {
+    // SAFETY: as in `open`; the mesh is only read.
+    unsafe {
+        mascon_inside(
+            triangles.as_ptr(),
+            triangles.len(),
+            x,
+            y,
+            z,
+            floats.as_mut_ptr(),
+            floats.len(),
+        )
+    }
+}
+
+/// Fills a body into a point file: the length written, or the number of a cause.
+pub(crate) fn fill(body: &Body, floats: &mut [f64], out: &mut [u8]) -> u64 {
+    // SAFETY: as in `open`; the three lists are only read.
+    unsafe {
+        mascon_fill(
+            body.grid,
+            body.triangles.as_ptr(),
+            body.triangles.len(),
+            body.cauchy.as_ptr(),
+            body.cauchy.len(),
+            body.elliptic.as_ptr(),
+            body.elliptic.len(),
+            body.target,
+            body.density,
+            floats.as_mut_ptr(),
+            floats.len(),
             out.as_mut_ptr(),
             out.len(),
         )

@@ -20,6 +20,13 @@ impl Element for u32 {
     }
 }
 
+/// A canary is a whole number; what is lent may be any float.
+impl Element for f64 {
+    fn of(bits: u32) -> Self {
+        Self::from(bits)
+    }
+}
+
 /// Bits that look random and are the same on every run.
 pub(crate) fn mixed(seed: u32, at: usize) -> u32 {
     let bits = (at as u32).wrapping_mul(0x9e37_79b9) ^ seed;
@@ -74,6 +81,38 @@ impl<T: Element> Lent<T> {
     /// A changed canary, told with the buffer's name.
     pub(crate) fn broken(&self, name: &str) -> Option<String> {
         (!self.intact()).then(|| format!("a write outside the {name}"))
+    }
+}
+
+/// Scratch floats, for inside and fill.
+pub(crate) type Floats = Lent<f64>;
+
+impl Floats {
+    /// The bits of a float before the call: zeros, NaNs, those of crossings, or any.
+    fn before(junk: u32, at: usize) -> u64 {
+        let any = u64::from(mixed(junk, at)) << 32 | u64::from(mixed(!junk, at));
+        match junk & 3 {
+            0 => 0,
+            1 => u64::MAX,
+            2 => (1.0 + at as f64).to_bits(),
+            _ => any,
+        }
+    }
+
+    /// Lays out so many floats.
+    pub(crate) fn lay(&mut self, junk: u32, floats: usize) {
+        let before = |at| f64::from_bits(Self::before(junk, at));
+        self.fill(0, (0..floats).map(before));
+    }
+
+    /// A float that is not as it was, though the call did not pass 8.
+    pub(crate) fn scratched(&self, answer: u64, junk: u32) -> Option<String> {
+        if !matches!(answer, 3 | 8 | 17) {
+            return None;
+        }
+        let changed = |(at, float): (usize, &f64)| float.to_bits() != Self::before(junk, at);
+        let at = self.slice().iter().enumerate().position(changed)?;
+        Some(format!("scratch float {at} changed"))
     }
 }
 

@@ -7,7 +7,10 @@ mod build;
 mod edit;
 #[allow(unsafe_code)]
 mod ffi;
+mod fill;
+mod inside;
 mod lent;
+mod meshes;
 #[cfg(original)]
 mod models;
 mod narrow;
@@ -27,13 +30,14 @@ use std::env;
 use std::path::Path;
 use std::process::ExitCode;
 
-const USAGE: &str = "usage: oracle check [all|narrow|open|build|edit|stored|treeinfo|original]
-       oracle store narrow|open|build|edit FILE
-       oracle verify-stored [narrow|open|build|edit] FILE
-       oracle bench open|build|edit";
+const USAGE: &str =
+    "usage: oracle check [all|narrow|open|build|edit|fill|inside|stored|treeinfo|original]
+       oracle store narrow|open|build|edit|inside|fill FILE
+       oracle verify-stored [narrow|open|build|edit|inside|fill] FILE
+       oracle bench open|build|edit|inside|fill";
 
-const CHECKS: [&str; 8] = [
-    "all", "narrow", "open", "build", "edit", "stored", "treeinfo", "original",
+const CHECKS: [&str; 10] = [
+    "all", "narrow", "open", "build", "edit", "fill", "inside", "stored", "treeinfo", "original",
 ];
 
 fn main() -> ExitCode {
@@ -48,6 +52,8 @@ fn main() -> ExitCode {
         ["bench", "open"] => told(bench::open()),
         ["bench", "build"] => told(bench::build::build()),
         ["bench", "edit"] => told(bench::edit::edit()),
+        ["bench", "inside"] => told(bench::inside::inside()),
+        ["bench", "fill"] => told(bench::fill::fill()),
         _ => {
             eprintln!("{USAGE}");
             ExitCode::from(2)
@@ -93,6 +99,12 @@ fn check(what: &str) -> ExitCode {
     }
     if wanted("edit") {
         edit::check(&mut report);
+    }
+    if wanted("fill") {
+        fill::check(&mut report);
+    }
+    if wanted("inside") {
+        inside::check(&mut report);
     }
     if wanted("stored") {
         store::check(&mut report);

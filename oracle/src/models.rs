@@ -1,9 +1,13 @@
 //! The original itself on models whose answers are known: it is compiled and reached as it should be.
 
 use crate::ffi::{self, Built};
+use crate::fill::cases::Case;
+use crate::fill::fixed::walls_at;
+use crate::meshes::{bytes, cuboid, mesh_bytes, tetrahedron};
 use crate::original::{self, shim};
 use crate::points::{point_file, Header, Record};
 use crate::report::{Found, Report};
+use crate::rule;
 
 /// A tetrahedron with corners at the origin and at 12 on each axis, seen from outside.
 const TETRAHEDRON: [f64; 36] = [
@@ -18,7 +22,7 @@ const KERNEL: [f64; 5] = [1.0, 2.0, 3.0, 0.5, 7.0];
 /// Says what is wrong, or nothing.
 type Model = (&'static str, fn() -> Result<(), String>);
 
-const MODELS: [Model; 13] = [
+const MODELS: [Model; 14] = [
     ("no record", no_record),
     ("one record", one_record),
     ("all cells of grid 2", full_grid_2),
@@ -27,6 +31,10 @@ const MODELS: [Model; 13] = [
     ("a shared slot", shared_slot),
     ("two edits undone", two_edits_undone),
     ("what the original accepts and the library refuses", laxer),
+    (
+        "what the original fills and the library refuses",
+        laxer_in_filling,
+    ),
     ("a ray", ray),
     ("near crossings", near_crossings),
     ("density", density),
@@ -246,20 +254,71 @@ fn laxer() -> Result<(), String> {
     )
 }
 
-fn ray() -> Result<(), String> {
-    let corners = [1.0, -1.0, -1.0, 1.0, 1.0, -1.0, 1.0, 0.0, 1.0];
-    let along_x = |origin| shim::ray_triangle_t(origin, [1.0, 0.0, 0.0], &corners);
-    same("distance", along_x([0.0; 3]), 1.0)?;
-    same("from beyond", along_x([2.0, 0.0, 0.0]), -1.0)
+/// The library's answer to a fill with room for all it could want at a small grid.
+fn filled(case: &Case) -> u64 {
+    ffi::fill(&case.body(), &mut [0.0; 16], &mut [0; 256])
 }
 
-/// Crossings at 10, 10.000009, 10.000018: the first and the last remain.
+/// Each input of filling in docs/DIFFERENCES.md: the original takes it, or says something else, and the library gives the cause
+/// named there.
+fn laxer_in_filling() -> Result<(), String> {
+    let corner = |low: f64, high: f64| {
+        let [x, y] = [[high, low, low], [low, high, low]];
+        tetrahedron([[low; 3], x, y, [low, low, high]])
+    };
+    let beyond = Case::of(2, &corner(0.0, 1e6f64.next_up()));
+    let flat = Case::of(2, &corner(999_999.99, 1e6));
+    let heavy = Case {
+        cauchy: bytes(&[0.0, 0.0, 0.0, 0.0, 1e30]),
+        ..Case::of(2, &corner(0.0, 1e4))
+    };
+    let cases = [
+        ("a coordinate above 1e6", beyond, 17),
+        ("a box that is flat after narrowing", flat, 19),
+        ("an infinite mass", heavy, 20),
+    ];
+    for (name, case, cause) in cases {
+        let taken = original::filled(&case.body()).is_some_and(|file| file.is_ok());
+        same(name, (filled(&case), taken), (cause, true))?;
+    }
+    let flat_and_full = Case::of(2, &cuboid([999_999.99; 3], [1e6; 3]));
+    let told = original::filled(&flat_and_full.body()).and_then(Result::err);
+    let told = (filled(&flat_and_full), told.as_deref());
+    same(
+        "flat and over capacity",
+        told,
+        (19, Some("mascon capacity exceeded")),
+    )
+}
+
+/// By the original and by the rule.
+fn ray() -> Result<(), String> {
+    let corners = [1.0, -1.0, -1.0, 1.0, 1.0, -1.0, 1.0, 0.0, 1.0];
+    let triangle = [[1.0, -1.0, -1.0], [1.0, 1.0, -1.0], [1.0, 0.0, 1.0]];
+    let along_x = |origin| shim::ray_triangle_t(origin, [1.0, 0.0, 0.0], &corners);
+    same("distance", along_x([0.0; 3]), 1.0)?;
+    same("from beyond", along_x([2.0, 0.0, 0.0]), -1.0)?;
+    let by_rule = [0.0, 2.0].map(|x| rule::fill::crossing([x, 0.0, 0.0], triangle));
+    same("by the rule", by_rule, [Some(1.0), None])
+}
+
+/// Crossings at 10, 10.000009, 10.000018: the first and the last remain. By the rule; walls there by the original and the library,
+/// asked about the origin, and filled at g 1, where the origin is the one middle.
 fn near_crossings() -> Result<(), String> {
-    let wall = |x: f64| [x, -1.0, -1.0, x, 1.0, -1.0, x, 0.0, 1.0];
-    let walls = [wall(10.0), wall(10.000009), wall(10.000018)];
-    let inside = |walls: &[[f64; 9]]| shim::inside(walls.as_flattened(), &[[0.0; 3]]);
-    same("three walls", inside(&walls), vec![false])?;
-    same("two walls", inside(&walls[..2]), vec![true])
+    let near = [10.0, 10.000009, 10.000018];
+    let remain = rule::fill::retained(near.to_vec());
+    same("remain", remain, vec![near[0], near[2]])?;
+    for (walls, inside) in [(&near[..], false), (&near[..2], true)] {
+        let mesh = walls_at(walls);
+        let list = mesh_bytes(&mesh);
+        let by_original = original::inside(&list, &[[0.0; 3]]);
+        same("by the original", by_original, Some(vec![inside]))?;
+        let by_library = ffi::inside(&list, [0.0; 3], &mut [0.0; 4]);
+        same("by the library", by_library, u64::from(inside))?;
+        let length = 64 + 16 * u64::from(inside);
+        same("filled", filled(&Case::of(1, &mesh)), length)?;
+    }
+    Ok(())
 }
 
 fn density() -> Result<(), String> {

@@ -3,6 +3,10 @@
 //! `shim` has its functions at its own grid size, 192; `build_mascon` picks a copy by the grid size.
 
 use crate::ffi::Built;
+#[cfg(original)]
+use crate::rule::fill::numbers;
+use crate::rule::fill::{Body, Point};
+use std::time::Duration;
 
 /// Whether the original's files were there when this was built.
 pub(crate) const AT_HAND: bool = cfg!(original);
@@ -25,6 +29,46 @@ pub(crate) fn tree(file: &[u8]) -> Option<(Vec<u8>, Built)> {
 /// Nothing: the original is not at hand.
 #[cfg(not(original))]
 pub(crate) fn tree(_: &[u8]) -> Option<(Vec<u8>, Built)> {
+    None
+}
+
+/// The original's filled file of a body that 17 lets pass, or its refusal; nothing at a grid size that it is not compiled at.
+#[cfg(original)]
+pub(crate) fn filled(body: &Body) -> Option<Result<Vec<u8>, String>> {
+    let g = body.grid as usize;
+    let lists = [body.triangles, body.cauchy, body.elliptic];
+    let [triangles, cauchy, elliptic] = lists.map(numbers);
+    let fill = || build_mascon(g, &triangles, &cauchy, &elliptic, body.target, body.density);
+    GRID_SIZES.contains(&g).then(fill)
+}
+
+/// Nothing: the original is not at hand.
+#[cfg(not(original))]
+pub(crate) fn filled(_: &Body) -> Option<Result<Vec<u8>, String>> {
+    None
+}
+
+/// Whether the original finds each point inside a mesh that 17 lets pass.
+#[cfg(original)]
+pub(crate) fn inside(triangles: &[u8], points: &[Point]) -> Option<Vec<bool>> {
+    Some(shim::inside(&numbers(triangles), points))
+}
+
+/// Nothing: the original is not at hand.
+#[cfg(not(original))]
+pub(crate) fn inside(_: &[u8], _: &[Point]) -> Option<Vec<bool>> {
+    None
+}
+
+/// How long the original's ray test of all triangles from all points takes, and how many crossings it finds.
+#[cfg(original)]
+pub(crate) fn cast(triangles: &[u8], points: &[Point]) -> Option<(usize, Duration)> {
+    Some(shim::cast(&numbers(triangles), points))
+}
+
+/// Nothing: the original is not at hand.
+#[cfg(not(original))]
+pub(crate) fn cast(_: &[u8], _: &[Point]) -> Option<(usize, Duration)> {
     None
 }
 

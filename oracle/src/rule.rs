@@ -1,6 +1,7 @@
 //! 01's rule for point files in plain steps, written from the paper and not from the library: slow, and meant to be read.
 
 pub(crate) mod edit;
+pub(crate) mod fill;
 pub(crate) mod tree;
 
 use std::collections::BTreeMap;

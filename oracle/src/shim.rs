@@ -109,6 +109,20 @@ pub(crate) fn ray_triangle_t(origin: Vec3, direction: Vec3, corners: &[f64; 9]) 
     super::ray_triangle_t(origin, direction, &triangle(corners))
 }
 
+/// Casts the ray along +X from each point at all triangles; the crossings counted, and how long it took once the mesh stood.
+pub(crate) fn cast(triangle_list: &[f64], points: &[Vec3]) -> (usize, std::time::Duration) {
+    let triangles = triangles(triangle_list);
+    let started = std::time::Instant::now();
+    let crossed = |point: Vec3| {
+        let hits = triangles
+            .iter()
+            .filter(|triangle| super::ray_triangle_t(point, [1.0, 0.0, 0.0], triangle) > 0.0);
+        hits.count()
+    };
+    let crossings = points.iter().map(|&point| crossed(point)).sum();
+    (crossings, started.elapsed())
+}
+
 pub(crate) fn density_at(kernel_list: &[f64], point: Vec3) -> f64 {
     super::density_at(&kernels(kernel_list), point)
 }

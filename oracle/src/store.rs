@@ -2,11 +2,13 @@
 //!
 //! `narrow.bin`: for each case 8 bytes of binary64 pattern and 4 bytes of the binary32 pattern
 //! that Rust gives, little endian; a NaN gives 0x7fc00000. `open.bin`: see `store/open.rs`. `build.bin`: see `store/build.rs`.
-//! `edit.bin`: see `store/edit.rs`.
+//! `edit.bin`: see `store/edit.rs`. `inside.bin`: see `store/inside.rs`. `fill.bin`: see `store/fill.rs`.
 
 mod blocks;
 mod build;
 mod edit;
+mod fill;
+mod inside;
 mod open;
 
 use crate::narrow;
@@ -97,6 +99,8 @@ fn bytes_of(kind: &str) -> Result<Vec<u8>, String> {
         "open" => Ok(open::bytes()),
         "build" => Ok(build::bytes()),
         "edit" => Ok(edit::bytes()),
+        "inside" => Ok(inside::bytes()),
+        "fill" => Ok(fill::bytes()),
         _ => Err(format!("no stored answers of the kind {kind:?}")),
     }
 }
@@ -138,6 +142,8 @@ pub(crate) fn check(report: &mut Report) {
     check_file(report, "open.bin", open::replay);
     check_file(report, "build.bin", build::replay);
     check_file(report, "edit.bin", edit::replay);
+    check_file(report, "inside.bin", inside::replay);
+    check_file(report, "fill.bin", fill::replay);
 }
 
 fn check_file(report: &mut Report, name: &str, replay: fn(&[u8]) -> Found) {
@@ -188,10 +194,9 @@ mod tests {
 
     #[test]
     fn stored_files_are_made_anew() {
-        verify("narrow", &folder().join("narrow.bin")).unwrap();
-        verify("open", &folder().join("open.bin")).unwrap();
-        verify("build", &folder().join("build.bin")).unwrap();
-        verify("edit", &folder().join("edit.bin")).unwrap();
+        for kind in ["narrow", "open", "build", "edit", "inside", "fill"] {
+            verify(kind, &folder().join(format!("{kind}.bin"))).unwrap();
+        }
     }
 
     /// Every kind of case is well represented.

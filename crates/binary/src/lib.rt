@@ -1,8 +1,9 @@
 // Little-endian numbers in a slice of bytes (binary.rs, and the closures u16_at and u32_at of mascon_tree.rs).
 ghost use mathlib.Core.Path.{_≡_};
+ghost use mathlib.Core.Bool.{false};
 ghost use Prim.Native.Nat.{_+_, _≤_, _<_};
 ghost use lib.ListN.{length, replicate};
-ghost use lib.Ieee.{binary64, ofBits, toBits};
+ghost use lib.Ieee.{binary64, ofBits, toBits, nanBits};
 ghost use Rattle.float.specs.Narrow.{narrow64};
 ghost use Rattle.rym1.specs.Bytes.{word16, word32, word64, le16, le32, le64, wordsBytes, splice};
 
@@ -48,6 +49,14 @@ pub fn f64_at(s: &[u8], at: usize) -> f64
     ensures { λ r. ⌜ r ≡ ofBits binary64 (word64 (now (s .entry)) at) ⌝ }
 {
     float::pattern::f64_from_bits(u64_at(s, at))
+}
+
+// The same of a pattern that is no NaN's.
+pub fn number_at(s: &[u8], at: usize) -> f64
+    requires { ⌜ (at + 8 ≤ length (now s)) × (nanBits binary64 (word64 (now s) at) ≡ false) ⌝ }
+    ensures { λ r. ⌜ r ≡ ofBits binary64 (word64 (now (s .entry)) at) ⌝ }
+{
+    f64::from_bits(u64_at(s, at))
 }
 
 // The low two bytes of the value.

@@ -1,3 +1,4 @@
 pub mod Lists
 pub mod Sorted
 pub mod Crossings
+pub mod Accepted

@@ -1,4 +1,6 @@
 pub mod Answers
 pub mod Listing
+pub mod QuickLaws
 pub mod Sorting
 pub mod Thinning
+pub mod Zeros

@@ -1,12 +1,14 @@
 // Whether a point lies inside a mesh (inside.rs): a scan with the accelerator's candidates, in place of its cell lists and stamps.
 pub mod accelerator;
 pub mod crossings;
+pub mod quick;
 pub mod ray;
 
 ghost use mathlib.Core.Path.{_≡_};
+ghost use mathlib.Core.Bool.{true};
 ghost use Prim.Native.Nat.{_/_, _≤_};
 ghost use lib.ListN.{length};
-ghost use Rattle.filling.specs.Lists.{mesh};
+ghost use Rattle.filling.specs.Lists.{mesh, goodTriangles};
 ghost use Rattle.filling.specs.Inside as def;
 use accelerator::bounds_of;
 use accelerator::indices;
@@ -24,6 +26,7 @@ use rym1::Cause;
 // Whether o lies inside the mesh, whose padded box is b.
 pub fn is_inside(s: &[u8], b: Bounds, o: Vec3, floats: &mut [f64]) -> bool
     requires { ⌜ length (now s) / 72 ≤ length (now floats) ⌝ }
+    requires { ⌜ goodTriangles (mesh (now s)) ≡ true ⌝ }
     ensures { λ r. ⌜ r ≡ def.isInside b (mesh (now (s .entry))) o ⌝ }
 {
     let at = indices(b, o);

@@ -15,13 +15,15 @@ use Rattle.rym1.specs.declared.Point.{Point}
 use Rattle.rym1.specs.Bytes.{splice, wordsBytes}
 use Rattle.rym1.specs.Causes.{number, told, when, first, Outcome, outcome, refuse}
 use Rattle.rym1.specs.File.{size, allFinite, pointsBytes}
+use Rattle.rym1.proofs.Causes.{or-false-l}
 use Rattle.rym1.proofs.Bytes.{length-splice, drop-splice}
 use Rattle.filling.specs.declared.Frame.{Frame}
-use Rattle.filling.specs.Lists.{mesh, kernels}
+use Rattle.filling.specs.Lists.{mesh, kernels, meshWrong}
 use Rattle.filling.specs.Inside.{bounds}
 use Rattle.filling.specs.Frame.{frame}
 use Rattle.filling.specs.Fill.{Task, task, narrowed, capacity, inner, frameOf, cellsOf, rawOf, scaleBy, recordsOf, measures, corners, rawSums, headerWords, fileBytes}
 use Rattle.filling.specs.Fill.{massesFinite, floatsFinite, boxFlat, listsWrong, fillCause, cleared, filled, fill, early}
+use Rattle.filling.proofs.Lists.{mesh-good}
 use Rattle.mascon_grid.specs.declared.visit.Found.{Found}
 use Rattle.mascon_grid.specs.declared.visit.Visit.{Visit}
 use Rattle.mascon_grid.specs.declared.visit.Visit.the-variants.{Done, Full}
@@ -217,8 +219,8 @@ module _ (g : ℕ) (m c e : List ℕ) (target density : Float) (s : List Float) 
 
           module _ (room : 64 + 16 * k ≤ length out) where
             pub ready : Ready m g s out
-            unfolding size
-            ready = record { some = omega arith; few = few; scratch = scratch; room = rw (← ek) room }
+            unfolding size listsWrong
+            ready = record { some = omega arith; few = few; good = mesh-good m (or-false-l (meshWrong m) _ (sym eb ∙ right)); scratch = scratch; room = rw (← ek) room }
 
             module _ (f : Frame) (ef : f ≡ frame (bounds (mesh m)) g) {q : Bool} (eq : q ≡ boxFlat f) where
               pub way-19 : q ≡ true → Filling (task g m c e target density) s out (Refused BoxFlat) s out

@@ -1,7 +1,7 @@
 -- What the visit of the cells finds and leaves behind: the records before their scaling. Definitions only.
 use Prim.Native.Nat.{ℕ, _+_, _*_, _/_, _≤_, _<_}
 use mathlib.Core.Path.{_≡_}
-use mathlib.Core.Bool.{cond}
+use mathlib.Core.Bool.{true, cond}
 use mathlib.Core.List.{List, [], _∷_}
 use lib.ListN.{length}
 use lib.Dec.{ltb}
@@ -14,7 +14,7 @@ use Rattle.filling.specs.declared.Kernel.{Kernel}
 use Rattle.filling.specs.declared.Triangle.{Triangle}
 use Rattle.filling.specs.declared.Frame.{Frame}
 use Rattle.filling.specs.Vector.{zero64}
-use Rattle.filling.specs.Lists.{mesh, kernels}
+use Rattle.filling.specs.Lists.{mesh, goodTriangles}
 use Rattle.filling.specs.Fill.{narrowed, capacity, inner, massOf, rawFrom}
 use Rattle.mascon_grid.specs.declared.visit.Found.{Found}
 use Rattle.mascon_grid.specs.declared.visit.Visit.{Visit}
@@ -40,9 +40,10 @@ pub record Visiting (f : Frame) (g : ℕ) (ks es : List Kernel) (cs : List ℕ) 
   pub answer : r ≡ visited f g ks es cs
   pub points : length cs ≤ capacity g → out′ ≡ splice out 64 (pointsBytes (rawPoints f g ks es cs))
 
--- what it asks: floats for the triangles, room for half the cells
+-- what it asks: a mesh within bounds, floats for its triangles, room for half the cells
 pub record Ready (s : List ℕ) (g : ℕ) (floats : List Float) (out : List ℕ) : Type 0 where
   pub some : 0 < g
   pub few : g ≤ 256
+  pub good : goodTriangles (mesh s) ≡ true
   pub scratch : length s / 72 ≤ length floats
   pub room : size (capacity g) ≤ length out

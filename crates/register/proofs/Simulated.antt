@@ -25,7 +25,7 @@ use Rattle.rym1.proofs.Changes.{Laid}
 use Rattle.register.specs.Register.{cellAt, update, Change, Register, replayed, start, population, Call, put, remove, undo, inGrid, isMass, isEmpty, noEntry, unless, accept, become, pushed, popped, step, answers, after}
 use Rattle.register.specs.Demand.{act, told, left, accepted, done, undone, workingFile}
 use Rattle.register.proofs.Replayed.{start-map}
-use Rattle.register.proofs.Words.{first-small, when-small}
+use Rattle.rym1.proofs.Causes.{first-small, when-small}
 use Rattle.register.proofs.Stacks.{update-back, stackWords}
 use Rattle.register.proofs.Simulation.{Rel, height, working-is, one-step}
 

@@ -50,13 +50,3 @@ first-same a a′ b b′ e h = ap (λ (n : ℕ). first n b) e ∙ go a′ h
     go : (n : ℕ) → (n ≡ 0 → b ≡ b′) → first n b ≡ first n b′
     go zero h = h refl
     go (suc n) h = refl
-
-pub first-small : (a b : ℕ) → a < 64 → b < 64 → first a b < 64
-unfolding first
-first-small zero b h k = k
-first-small (suc a) b h k = h
-
-pub when-small : (t : Bool) (n : ℕ) → n < 64 → when t n < 64
-unfolding when
-when-small true n h = h
-when-small false n h = omega arith

@@ -57,3 +57,14 @@ pub refuse-found : {B : Type 0} (k : ℕ) (s : B) (done : Outcome B) → 0 < k �
 unfolding refuse outcome
 refuse-found zero s done h = absurd (omega arith)
 refuse-found (suc k) s done h = refl
+
+-- a cause is below 64
+pub first-small : (a b : ℕ) → a < 64 → b < 64 → first a b < 64
+unfolding first
+first-small zero b h k = k
+first-small (suc a) b h k = h
+
+pub when-small : (t : Bool) (n : ℕ) → n < 64 → when t n < 64
+unfolding when
+when-small true n h = h
+when-small false n h = omega arith

@@ -100,7 +100,7 @@ module _ (g : ℕ) (pos : 0 < g) where
   unfolding cube
   z-low c h = div-lt-iff-lt-mul pos .1 (div-lt-iff-lt-mul pos .1 h)
 
-  point-cause : (c : ℕ) (v : Masses) → c < cube g → Finite (v .cauchy) (v .elliptic) → pointCause g (cellPoint g c v) ≡ 0
+  pub point-cause : (c : ℕ) (v : Masses) → c < cube g → Finite (v .cauchy) (v .elliptic) → pointCause g (cellPoint g c v) ≡ 0
   unfolding pointCause placeCause massCause cellPoint when first
   point-cause c v h k =
       rw (lt-leb g (c % g) (y-low c), lt-leb g (c / g % g) (y-low (c / g)), lt-leb g (c / g / g) (z-low c h), k .cauchy-finite, k .elliptic-finite)

@@ -1,12 +1,13 @@
 //! Building trees: the library beside the original on the same bytes.
 
+use super::timed;
 use crate::ffi::{self, Built};
 use crate::original;
 use crate::points::{point_file, Header, Record};
 use crate::rng::Rng;
 use crate::rule::cell_of;
 use std::hint::black_box;
-use std::time::{Duration, Instant};
+use std::time::Duration;
 
 const RUNS: usize = 5;
 
@@ -68,14 +69,6 @@ impl Input {
         let records: Vec<Record> = (0..).zip(cells).map(record).collect();
         point_file(Header::cube(self.grid, 8.0), &records)
     }
-}
-
-/// Runs a call and keeps the better time.
-fn timed<T>(best: &mut Duration, call: impl FnOnce() -> T) -> T {
-    let started = Instant::now();
-    let given = call();
-    *best = (*best).min(started.elapsed());
-    given
 }
 
 /// Best times: the library, the original, a plain copy of the file and the tree.

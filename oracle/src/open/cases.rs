@@ -18,22 +18,22 @@ pub(crate) struct Case {
 }
 
 /// A kind of case: a good one, then damage, told what to be by the case's number.
-pub(crate) struct Kind {
+pub(crate) struct Kind<C = Case> {
     pub(crate) name: &'static str,
     pub(crate) cases: u64,
-    good: fn(&mut Rng) -> Case,
-    damage: Damage,
+    good: fn(&mut Rng) -> C,
+    damage: Damage<C>,
 }
 
 /// What is done to a good case; the number tells what to do where there are several ways.
-pub(crate) type Damage = fn(&mut Rng, usize, &mut Case);
+pub(crate) type Damage<C = Case> = fn(&mut Rng, usize, &mut C);
 
-pub(crate) const fn kind(
+pub(crate) const fn kind<C>(
     name: &'static str,
     cases: u64,
-    good: fn(&mut Rng) -> Case,
-    damage: Damage,
-) -> Kind {
+    good: fn(&mut Rng) -> C,
+    damage: Damage<C>,
+) -> Kind<C> {
     Kind {
         name,
         cases,
@@ -144,9 +144,9 @@ const NOT_BELOW: [(u32, u32); 12] = [
     (0x7f7f_ffff, 0xff7f_ffff),
 ];
 
-impl Kind {
+impl<C> Kind<C> {
     /// The case of this number; the same on every run.
-    pub(crate) fn case(&self, seed: u64, number: u64) -> Case {
+    pub(crate) fn case(&self, seed: u64, number: u64) -> C {
         let start = Rng::new(seed << 40 | number).bits();
         let mut rng = Rng::new(start);
         let mut case = (self.good)(&mut rng);
@@ -387,7 +387,7 @@ pub(crate) fn few_records(rng: &mut Rng, grid: usize) -> Case {
     case
 }
 
-pub(crate) fn nothing(_: &mut Rng, _: usize, _: &mut Case) {}
+pub(crate) fn nothing<C>(_: &mut Rng, _: usize, _: &mut C) {}
 
 /// Junk in pads, in the header words that are not read, and after the records.
 pub(crate) fn not_read(rng: &mut Rng, _: usize, case: &mut Case) {

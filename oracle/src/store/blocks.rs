@@ -1,7 +1,7 @@
 //! Stored answers in blocks of one length: the parts of a block, the cases taken in turn, the replay of all of them.
 
 use crate::lent::{mixed, Buffers};
-use crate::open::cases::{Case, Kind};
+use crate::open::cases::Kind;
 use crate::report::Found;
 
 pub(super) fn bytes_of(words: &[u32]) -> Vec<u8> {
@@ -23,12 +23,12 @@ pub(super) fn laid(length: usize, parts: &[(usize, &[u8])]) -> Vec<u8> {
 }
 
 /// The kinds in turn, each with the next of its cases that fits; so many cases in all.
-pub(super) fn in_turn(
-    kinds: &[Kind],
+pub(super) fn in_turn<C>(
+    kinds: &[Kind<C>],
     seed: u64,
-    fits: fn(&Case) -> bool,
+    fits: fn(&C) -> bool,
     count: usize,
-) -> Vec<Case> {
+) -> Vec<C> {
     let small = kinds.iter().map(|kind| {
         (0..kind.cases)
             .map(|number| kind.case(seed, number))

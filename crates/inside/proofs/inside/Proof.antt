@@ -5,6 +5,7 @@ use native.Mathlib.Omega.{arith}
 use borrow.Author.Tests.{not-true, not-false}
 use Rattle.rym1.specs.Causes.{number}
 use Rattle.filling.specs.Inside.{sideNumber}
+use Rattle.filling.proofs.Lists.{mesh-good}
 use Rattle.inside.proofs.Answers.{wrong-list, wrong-point, few-floats, answered}
 use borrow.Author.Needs.{needs}
 use Rattle.inside.proofs.inside.Statement.{statement}
@@ -46,7 +47,7 @@ padded-requires : tie.Need-padded-requires
 padded-requires c κs = search needs
 
 is-inside-requires : tie.Need-is-inside-requires
-is-inside-requires c κs = search needs
+is-inside-requires c κs = (search needs, mesh-good (c .before .before .before .before .before .before .before .before .before .before .args .s .now) (sym (c .before .before .before .before .before .before .before .mesh-wrong .ensures) ∙ c .before .before .before .before .before .before .if1 .left))
 
 same-length : tie.Need-same-length
 same-length c = search needs

@@ -56,7 +56,7 @@ is-inside-requires : tie.Need-is-inside-requires Inv-loop μ-loop
 is-inside-requires c κs =
     let at-loop = c .before .before .before in
     let start = at-loop .before .before .before .before .before .before .before in
-    omega (arith, start .pre .0 .scratch, at-loop .loop .inv .1)
+    (omega (arith, start .pre .0 .scratch, at-loop .loop .inv .1), start .pre .0 .good)
 
 loop-less : tie.Need-loop-less Inv-loop μ-loop
 loop-less c = search needs

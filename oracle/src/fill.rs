@@ -1,0 +1,465 @@
+//! Filling a mesh: the proved library against the rule, and the rule against the original.
+
+pub(crate) mod cases;
+pub(crate) mod fixed;
+#[cfg(test)]
+pub(crate) mod plain;
+
+use crate::ffi;
+use crate::lent::{Floats, Lent};
+use crate::open::cases::Kind;
+use crate::original;
+use crate::report::Report;
+use crate::rule;
+use crate::rule::fill::Body;
+use crate::search::{first, shared, Search};
+use cases::{Case, KINDS};
+
+/// An implementation of fill.
+pub(crate) type Fill = fn(&Body, &mut [f64], &mut [u8]) -> u64;
+
+/// The seed of the first kind; the others follow.
+const SEED: u64 = 401;
+
+/// One call's lists and buffers, the answer that it shall give, and what the output shall hold afterwards.
+struct Desk {
+    lists: [Lent<u8>; 3],
+    floats: Floats,
+    out: Lent<u8>,
+    want: u64,
+    want_out: Vec<u8>,
+}
+
+const LISTS: [&str; 3] = ["mesh", "Cauchy kernels", "elliptic kernels"];
+
+impl Desk {
+    fn new() -> Self {
+        Self {
+            lists: [Lent::new(), Lent::new(), Lent::new()],
+            floats: Lent::new(),
+            out: Lent::new(),
+            want: 0,
+            want_out: Vec::new(),
+        }
+    }
+
+    /// Lays out what a case gives and lends, with these bytes as the output.
+    fn lay(&mut self, case: &Case, out: impl ExactSizeIterator<Item = u8>) {
+        let shift = case.junk as usize % 16;
+        let lists = [&case.triangles, &case.cauchy, &case.elliptic];
+        for (lent, list) in self.lists.iter_mut().zip(lists) {
+            lent.fill(shift, list.iter().copied());
+        }
+        self.floats.lay(case.junk, case.floats);
+        self.out.fill(shift / 2, out);
+    }
+
+    fn call(&mut self, fill: Fill, case: &Case) -> u64 {
+        let [triangles, cauchy, elliptic] = self.lists.each_ref().map(Lent::slice);
+        let body = Body {
+            triangles,
+            cauchy,
+            elliptic,
+            ..case.body()
+        };
+        fill(&body, self.floats.slice_mut(), self.out.slice_mut())
+    }
+
+    /// What a call of this answer did besides: to a list, to a canary, to scratch that it has to leave.
+    fn besides(&self, case: &Case, answer: u64) -> Option<String> {
+        let lists = [&case.triangles, &case.cauchy, &case.elliptic];
+        let named = self.lists.iter().zip(lists).zip(LISTS);
+        let mut told = named.filter_map(|((lent, list), name)| {
+            first(&format!("byte of the {name}"), lent.slice(), list).or_else(|| lent.broken(name))
+        });
+        told.next()
+            .or_else(|| self.floats.broken("scratch"))
+            .or_else(|| self.out.broken("output"))
+            .or_else(|| self.floats.scratched(answer, case.junk))
+    }
+
+    /// Makes the call and says what differs from the rule, or in the rule from the original, if anything does.
+    fn differs(&mut self, fill: Fill, case: &Case) -> Option<String> {
+        self.unlike_the_rule(fill, case).or_else(|| {
+            let want = self.want;
+            unlike_the_original(&case.body(), want, &self.want_out)
+                .map(|what| format!("answer {want}, {what}"))
+        })
+    }
+
+    fn unlike_the_rule(&mut self, fill: Fill, case: &Case) -> Option<String> {
+        self.lay(case, case.out_before());
+        self.want_out.clear();
+        self.want_out.extend_from_slice(self.out.slice());
+        let want = rule::fill::fill(&case.body(), case.floats as u64, &mut self.want_out);
+        self.want = want;
+        let got = self.call(fill, case);
+        if got != want {
+            return Some(format!("library answers {got}, rule {want}"));
+        }
+        first("output byte", self.out.slice(), &self.want_out)
+            .or_else(|| self.besides(case, want))
+            .map(|what| format!("answer {want}, {what}"))
+    }
+}
+
+/// Makes a call in lent buffers, with these bytes as the output: its answer, the output afterwards, what it did besides.
+pub(crate) fn called(fill: Fill, case: &Case, out: &[u8]) -> (u64, Vec<u8>, Option<String>) {
+    let mut desk = Desk::new();
+    desk.lay(case, out.iter().copied());
+    let answer = desk.call(fill, case);
+    let besides = desk.besides(case, answer);
+    (answer, desk.out.slice().to_vec(), besides)
+}
+
+/// Whether min is below max on each axis of a point file.
+fn has_room(file: &[u8]) -> bool {
+    let float = |at: usize| f32::from_le_bytes([0, 1, 2, 3].map(|byte| file[at + byte]));
+    rule::AXES.iter().all(|&(min, max)| float(min) < float(max))
+}
+
+/// What differs from the original where the rule accepts; where it refuses by 18, 19 or 20, whether the original's own answer says so too.
+pub(crate) fn unlike_the_original(body: &Body, answer: u64, out: &[u8]) -> Option<String> {
+    if !matches!(answer, 18..=20 | 64..) {
+        return None;
+    }
+    let told = match (answer, original::filled(body)?) {
+        (18, Err(_)) | (19, Err(_)) => return None,
+        (19, Ok(file)) if !has_room(&file) => return None,
+        (20, Ok(file)) if !rule::fill::is_finite(&file) => return None,
+        (64.., Ok(file)) if file.len() as u64 == answer => {
+            return first("byte beside the original", out, &file)
+        }
+        (_, Ok(file)) => format!("writes {} bytes", file.len()),
+        (_, Err(refusal)) => format!("says {refusal:?}"),
+    };
+    Some(format!("the original {told}"))
+}
+
+fn described(case: &Case) -> String {
+    let Case {
+        grid,
+        triangles,
+        cauchy,
+        elliptic,
+        ..
+    } = case;
+    format!(
+        "g {grid}, mesh {}, kernels {} and {}, target {:e}, density {:e}, scratch {}, output {}",
+        triangles.len(),
+        cauchy.len(),
+        elliptic.len(),
+        case.target,
+        case.density,
+        case.floats,
+        case.out
+    )
+}
+
+/// Makes the call of a case and notes what it finds.
+fn visit(search: &mut Search, desk: &mut Desk, fill: Fill, name: &str, number: u64, case: &Case) {
+    let lists = case.triangles.len() + case.cauchy.len() + case.elliptic.len();
+    let size = lists + 8 * case.floats + case.out;
+    let wrong = desk.differs(fill, case);
+    let told = wrong.map(|what| format!("{name}, case {number}: {}: {what}", described(case)));
+    search.note(size, number, told);
+}
+
+/// Compares the cases of a kind, the work shared out by their numbers.
+fn compare(fill: Fill, seed: u64, kind: &Kind<Case>, cases: u64) -> Search {
+    shared(cases, Desk::new, |search, desk, number| {
+        let case = kind.case(seed, number);
+        visit(search, desk, fill, kind.name, number, &case);
+    })
+}
+
+/// The fixed cases on one desk; an answer that is known is asked of the rule too.
+fn compare_fixed(fill: Fill) -> Search {
+    let (mut desk, mut search) = (Desk::new(), Search::default());
+    for (number, (name, case, answer)) in (0..).zip(fixed::all()) {
+        visit(&mut search, &mut desk, fill, name, number, &case);
+        let by_rule = desk.want;
+        if answer.is_some_and(|answer| answer != by_rule) {
+            search.note_first(number, format!("{name}: rule answers {by_rule}"));
+        }
+    }
+    search
+}
+
+pub(crate) fn check(report: &mut Report) {
+    for (seed, kind) in (SEED..).zip(&KINDS) {
+        report.run(&format!("fill: {}", kind.name), || {
+            compare(ffi::fill, seed, kind, kind.cases).found()
+        });
+    }
+    report.run("fill: fixed cases", || compare_fixed(ffi::fill).found());
+}
+
+#[cfg(test)]
+mod tests {
+    use super::cases::{pair_of, CAUSES};
+    use super::plain::{plain_fill, Fault, FILL_FAULTS};
+    use super::*;
+    #[cfg(original)]
+    use crate::meshes::cuboid;
+    use std::collections::{BTreeMap, BTreeSet};
+
+    /// A kind by its name, with its seed.
+    fn kind(name: &str) -> (u64, &'static Kind<Case>) {
+        let mut kinds = (SEED..).zip(&KINDS);
+        kinds
+            .find(|(_, kind)| kind.name == name)
+            .expect("a kind of this name")
+    }
+
+    /// The rule's answers on the first cases of a kind.
+    fn answers(name: &str) -> BTreeMap<u64, u64> {
+        let (seed, kind) = kind(name);
+        let mut seen = BTreeMap::new();
+        for case in (0..kind.cases.min(300)).map(|number| kind.case(seed, number)) {
+            let mut out = vec![0; case.out];
+            let answer = rule::fill::fill(&case.body(), case.floats as u64, &mut out);
+            *seen.entry(answer.min(64)).or_default() += 1;
+        }
+        seen
+    }
+
+    /// Each kind reaches the answers that it is for.
+    #[test]
+    fn kinds_are_what_they_say() {
+        let only = |name: &str, wanted: &[u64]| {
+            let seen = answers(name);
+            assert!(seen.keys().eq(wanted), "{name}: {seen:?}");
+        };
+        for name in [
+            "tetrahedra",
+            "lumpy spheres",
+            "no inside point",
+            "slivers",
+            "large grids",
+        ] {
+            only(name, &[64]);
+        }
+        for name in ["boxes", "contact binaries", "capacity"] {
+            only(name, &[18, 64]);
+        }
+        only("over capacity", &[18]);
+        only("flat boxes", &[18, 19, 64]);
+        only("infinite masses", &[20, 64]);
+        only("narrowing ties", &[20, 64]);
+        only("extreme numbers", &[18, 19, 20, 64]);
+        only("grid sizes", &[3, 9]);
+        let most = |name: &str, least: u64| {
+            let seen = answers(name);
+            assert!(seen[&64] >= least, "{name}: {seen:?}");
+        };
+        for name in [
+            "boxes",
+            "contact binaries",
+            "open soups",
+            "degenerate triangles",
+            "edges through middles",
+            "negative zeros",
+            "cancelling kernels",
+            "tiny weights",
+            "walls",
+        ] {
+            most(name, 250);
+        }
+        for name in [
+            "list lengths",
+            "triangle numbers",
+            "kernel numbers",
+            "lone numbers",
+        ] {
+            let seen = answers(name);
+            assert!(seen[&17] > 150 && seen[&64] > 50, "{name}: {seen:?}");
+        }
+        let seen = answers("buffer lengths");
+        assert!(
+            [8, 9, 64].iter().all(|answer| seen[answer] > 50),
+            "{seen:?}"
+        );
+        let seen = answers("several causes");
+        assert!(
+            [3, 8, 9, 17].iter().all(|answer| seen[answer] > 5),
+            "{seen:?}"
+        );
+    }
+
+    /// A case with two causes is refused by the first in the order.
+    #[test]
+    fn pairs_are_refused_by_the_first() {
+        let (seed, kind) = kind("pairs of causes");
+        let mut seen = BTreeSet::new();
+        for number in 0..210 {
+            let case = kind.case(seed, number);
+            let mut out = vec![0; case.out];
+            let answer = rule::fill::fill(&case.body(), case.floats as u64, &mut out);
+            let pair = pair_of(number as usize);
+            assert_eq!(answer, pair[0], "case {number}");
+            seen.insert(pair);
+        }
+        assert_eq!(seen.len(), CAUSES.len() * (CAUSES.len() - 1) / 2);
+    }
+
+    /// Files of the kind hold what it is for.
+    #[test]
+    fn files_are_met() {
+        let count = |name: &str, wanted: fn(&[u8]) -> bool| {
+            let (seed, kind) = kind(name);
+            let cases = (0..300).map(|number| kind.case(seed, number));
+            let wanted = |case: &Case| {
+                let mut out = vec![0; case.out];
+                let answer = rule::fill::fill(&case.body(), case.floats as u64, &mut out);
+                answer >= 64 && wanted(&out[..answer as usize])
+            };
+            cases.filter(wanted).count()
+        };
+        fn has_mass(file: &[u8], wanted: fn(u32) -> bool) -> bool {
+            let (words, _) = file[64..].as_chunks::<4>();
+            let words = words.iter().map(|word| u32::from_le_bytes(*word));
+            let mut masses = words.enumerate().filter(|(place, _)| place % 4 > 1);
+            masses.any(|(_, bits)| wanted(bits))
+        }
+        let many = |file: &[u8]| file.len() > 64 + 16 * 8;
+        let unscaled = |file: &[u8]| file[24..28] == 1f32.to_le_bytes();
+        let minus_zero = |file: &[u8]| has_mass(file, |bits| bits == 0x8000_0000);
+        let subnormal = |file: &[u8]| {
+            has_mass(file, |bits| {
+                (1..0x0080_0000).contains(&(bits & 0x7fff_ffff))
+            })
+        };
+        assert!(count("tetrahedra", many) > 50);
+        assert!(count("edges through middles", many) > 30);
+        assert!((50..250).contains(&count("tetrahedra", unscaled)));
+        assert!(count("tiny weights", minus_zero) > 10);
+        assert!(count("tiny weights", subnormal) > 10);
+        assert!(
+            count("cancelling kernels", |file| has_mass(file, |bits| bits
+                == 0))
+                > 10
+        );
+    }
+
+    /// The original is compiled at each grid size of a kind that is for it.
+    #[test]
+    fn every_grid_size_is_met() {
+        let grids = |name: &str| {
+            let (seed, kind) = kind(name);
+            let grids = (0..kind.cases).map(|number| kind.case(seed, number).grid);
+            grids.collect::<BTreeSet<u32>>()
+        };
+        for name in ["tetrahedra", "boxes", "edges through middles"] {
+            assert!(grids(name).into_iter().eq(1..=24), "{name}");
+        }
+        let large = grids("large grids");
+        assert!(large.into_iter().eq([28, 32, 40, 48]));
+        #[cfg(original)]
+        for kind in KINDS.iter().take_while(|kind| kind.name != "list lengths") {
+            let compiled = |&g: &u32| original::GRID_SIZES.contains(&(g as usize));
+            assert!(grids(kind.name).iter().all(compiled), "{}", kind.name);
+        }
+    }
+
+    /// A second implementation agrees with the rule and the original.
+    #[test]
+    fn plain_fill_agrees() {
+        let plain: Fill = |body, floats, out| plain_fill(Fault::None, body, floats, out);
+        for (seed, kind) in (SEED..).zip(&KINDS) {
+            let found = compare(plain, seed, kind, kind.cases.min(100)).found();
+            assert_eq!(found.smallest, None);
+        }
+    }
+
+    /// Whether a kind shows that an implementation is wrong.
+    fn finds(name: &str, fill: Fill) -> bool {
+        let (seed, kind) = kind(name);
+        let mut desk = Desk::new();
+        let mut cases = (0..kind.cases).map(|number| kind.case(seed, number));
+        cases.any(|case| desk.unlike_the_rule(fill, &case).is_some())
+    }
+
+    /// Made-up faults are found, and where they should be.
+    #[test]
+    fn faults_are_found() {
+        for (number, (faulty, name)) in FILL_FAULTS.into_iter().enumerate() {
+            assert!(finds(name, faulty), "fault {number} in {name}");
+        }
+    }
+
+    /// Made-up faults of a call are found, and where they should be.
+    #[test]
+    fn faults_of_calls_are_found() {
+        let touches_scratch: Fill = |body, floats, out| {
+            floats.iter_mut().take(1).for_each(|float| *float = 0.5);
+            plain_fill(Fault::None, body, floats, out)
+        };
+        for name in ["grid sizes", "list lengths", "buffer lengths"] {
+            assert!(finds(name, touches_scratch), "{name}");
+        }
+        assert!(!finds("no inside point", touches_scratch));
+        let touches_output: Fill = |body, floats, out| {
+            let answer = plain_fill(Fault::None, body, floats, out);
+            if matches!(answer, 3..=17 | 19) {
+                out.iter_mut().take(1).for_each(|byte| *byte ^= 1);
+            }
+            answer
+        };
+        for name in [
+            "grid sizes",
+            "list lengths",
+            "flat boxes",
+            "pairs of causes",
+        ] {
+            assert!(finds(name, touches_output), "{name}");
+        }
+    }
+
+    #[test]
+    fn the_smallest_is_told() {
+        let wrong: Fill = |_, _, _| 5;
+        let (seed, kind) = kind("no inside point");
+        let what = compare(wrong, seed, kind, 100).found();
+        assert_eq!((what.cases, what.mismatches), (100, 100));
+        let what = what.smallest.expect("a mismatch");
+        assert!(what.contains("g 1, mesh 72, kernels "), "{what}");
+        assert!(what.ends_with("library answers 5, rule 64"), "{what}");
+    }
+
+    #[test]
+    fn fixed_answers_are_the_rules() {
+        for (name, case, answer) in fixed::small() {
+            let mut out = vec![0; case.out];
+            let by_rule = rule::fill::fill(&case.body(), case.floats as u64, &mut out);
+            assert_eq!(by_rule, answer, "{name}");
+        }
+    }
+
+    /// A rule that is not the original's is told, though the library has it too.
+    #[cfg(original)]
+    #[test]
+    fn the_original_is_asked() {
+        let case = Case::of(1, &cuboid([0.0; 3], [1.0; 3]));
+        let mut out = vec![0; 80];
+        let answer = rule::fill::fill(&case.body(), 12, &mut out);
+        let told = |answer: u64, out: &[u8]| unlike_the_original(&case.body(), answer, out);
+        assert_eq!((answer, told(80, &out)), (80, None));
+        out[70] ^= 1;
+        let what = told(80, &out).expect("a difference");
+        assert!(what.starts_with("byte beside the original 70 is"), "{what}");
+        for answer in [18, 19, 20, 64, 96] {
+            assert_eq!(
+                told(answer, &out).as_deref(),
+                Some("the original writes 80 bytes")
+            );
+        }
+        for answer in [3, 17, 8, 9] {
+            assert_eq!(told(answer, &out), None);
+        }
+        let over = Case::of(2, &cuboid([0.0; 3], [1.0; 3]));
+        assert_eq!(unlike_the_original(&over.body(), 18, &[]), None);
+        let what = unlike_the_original(&over.body(), 64, &[]).expect("a difference");
+        assert!(what.contains("capacity exceeded"), "{what}");
+    }
+}
