@@ -32,8 +32,8 @@ use std::process::ExitCode;
 
 const USAGE: &str =
     "usage: oracle check [all|narrow|open|build|edit|fill|inside|stored|treeinfo|original]
-       oracle store narrow|open|build|edit|inside|fill FILE
-       oracle verify-stored [narrow|open|build|edit|inside|fill] FILE
+       oracle store narrow|open|build|edit|ray|inside|fill FILE
+       oracle verify-stored [narrow|open|build|edit|ray|inside|fill] FILE
        oracle bench open|build|edit|inside|fill";
 
 const CHECKS: [&str; 10] = [

@@ -291,15 +291,18 @@ fn laxer_in_filling() -> Result<(), String> {
     )
 }
 
-/// By the original and by the rule.
+/// From the origin at distance 1, and not from beyond: by the original, by the rule, and by the library, asked whether the point is
+/// inside a mesh of that one triangle.
 fn ray() -> Result<(), String> {
-    let corners = [1.0, -1.0, -1.0, 1.0, 1.0, -1.0, 1.0, 0.0, 1.0];
     let triangle = [[1.0, -1.0, -1.0], [1.0, 1.0, -1.0], [1.0, 0.0, 1.0]];
-    let along_x = |origin| shim::ray_triangle_t(origin, [1.0, 0.0, 0.0], &corners);
-    same("distance", along_x([0.0; 3]), 1.0)?;
-    same("from beyond", along_x([2.0, 0.0, 0.0]), -1.0)?;
-    let by_rule = [0.0, 2.0].map(|x| rule::fill::crossing([x, 0.0, 0.0], triangle));
-    same("by the rule", by_rule, [Some(1.0), None])
+    let points = [[0.0; 3], [2.0, 0.0, 0.0]];
+    let by_original = points.map(|point| original::ray(point, &triangle));
+    same("by the original", by_original, [Some(1.0), Some(-1.0)])?;
+    let by_rule = points.map(|point| rule::fill::crossing(point, triangle));
+    same("by the rule", by_rule, [Some(1.0), None])?;
+    let list = mesh_bytes(&[triangle]);
+    let by_library = points.map(|point| ffi::inside(&list, point, &mut [0.0]));
+    same("by the library", by_library, [1, 0])
 }
 
 /// Crossings at 10, 10.000009, 10.000018: the first and the last remain. By the rule; walls there by the original and the library,

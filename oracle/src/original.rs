@@ -5,7 +5,7 @@
 use crate::ffi::Built;
 #[cfg(original)]
 use crate::rule::fill::numbers;
-use crate::rule::fill::{Body, Point};
+use crate::rule::fill::{Body, Point, Triangle};
 use std::time::Duration;
 
 /// Whether the original's files were there when this was built.
@@ -57,6 +57,19 @@ pub(crate) fn inside(triangles: &[u8], points: &[Point]) -> Option<Vec<bool>> {
 /// Nothing: the original is not at hand.
 #[cfg(not(original))]
 pub(crate) fn inside(_: &[u8], _: &[Point]) -> Option<Vec<bool>> {
+    None
+}
+
+/// The distance at which the original's ray along +X from a point crosses a triangle, or -1.
+#[cfg(original)]
+pub(crate) fn ray(point: Point, triangle: &Triangle) -> Option<f64> {
+    let corners = triangle.as_flattened().try_into().expect("nine numbers");
+    Some(shim::ray_triangle_t(point, [1.0, 0.0, 0.0], corners))
+}
+
+/// Nothing: the original is not at hand.
+#[cfg(not(original))]
+pub(crate) fn ray(_: Point, _: &Triangle) -> Option<f64> {
     None
 }
 

@@ -2,7 +2,7 @@
 //!
 //! `narrow.bin`: for each case 8 bytes of binary64 pattern and 4 bytes of the binary32 pattern
 //! that Rust gives, little endian; a NaN gives 0x7fc00000. `open.bin`: see `store/open.rs`. `build.bin`: see `store/build.rs`.
-//! `edit.bin`: see `store/edit.rs`. `inside.bin`: see `store/inside.rs`. `fill.bin`: see `store/fill.rs`.
+//! `edit.bin`: see `store/edit.rs`. `ray.bin`: see `store/ray.rs`. `inside.bin`: see `store/inside.rs`. `fill.bin`: see `store/fill.rs`.
 
 mod blocks;
 mod build;
@@ -10,6 +10,7 @@ mod edit;
 mod fill;
 mod inside;
 mod open;
+mod ray;
 
 use crate::narrow;
 use crate::report::{Found, Report};
@@ -99,6 +100,7 @@ fn bytes_of(kind: &str) -> Result<Vec<u8>, String> {
         "open" => Ok(open::bytes()),
         "build" => Ok(build::bytes()),
         "edit" => Ok(edit::bytes()),
+        "ray" => Ok(ray::bytes()),
         "inside" => Ok(inside::bytes()),
         "fill" => Ok(fill::bytes()),
         _ => Err(format!("no stored answers of the kind {kind:?}")),
@@ -142,6 +144,7 @@ pub(crate) fn check(report: &mut Report) {
     check_file(report, "open.bin", open::replay);
     check_file(report, "build.bin", build::replay);
     check_file(report, "edit.bin", edit::replay);
+    check_file(report, "ray.bin", ray::replay);
     check_file(report, "inside.bin", inside::replay);
     check_file(report, "fill.bin", fill::replay);
 }
@@ -194,7 +197,7 @@ mod tests {
 
     #[test]
     fn stored_files_are_made_anew() {
-        for kind in ["narrow", "open", "build", "edit", "inside", "fill"] {
+        for kind in ["narrow", "open", "build", "edit", "ray", "inside", "fill"] {
             verify(kind, &folder().join(format!("{kind}.bin"))).unwrap();
         }
     }

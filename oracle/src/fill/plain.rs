@@ -4,7 +4,7 @@ use super::Fill;
 use crate::inside::Inside;
 use crate::rule::fill::{Body, Point, Triangle};
 
-#[derive(Clone, Copy, PartialEq)]
+#[derive(Clone, Copy, Debug, PartialEq)]
 pub(crate) enum Fault {
     None,
     // the ray
@@ -16,6 +16,12 @@ pub(crate) enum Fault {
     VAboveZero,
     SumBelowOne,
     DistanceAtEps,
+    // the ray alone
+    UNotTested,
+    VNotTested,
+    SumNotTested,
+    BehindCrossed,
+    DotFromTheRight,
     // candidates
     NoXIndex,
     NoYAndZIndex,
@@ -95,6 +101,23 @@ macro_rules! fill_with {
         |body, floats, out| plain_fill(Fault::$fault, body, floats, out)
     };
 }
+
+/// The ray test with each fault.
+pub(crate) const RAY_FAULTS: [Fault; 13] = [
+    Fault::DeterminantAtEps,
+    Fault::OneSided,
+    Fault::DividedByDeterminant,
+    Fault::UAboveZero,
+    Fault::UBelowOne,
+    Fault::VAboveZero,
+    Fault::SumBelowOne,
+    Fault::DistanceAtEps,
+    Fault::UNotTested,
+    Fault::VNotTested,
+    Fault::SumNotTested,
+    Fault::BehindCrossed,
+    Fault::DotFromTheRight,
+];
 
 /// Inside with each fault, and a kind of case that shows it.
 pub(crate) const INSIDE_FAULTS: [(Inside, &str); 26] = [
@@ -323,6 +346,10 @@ impl Plain {
     fn ray(&self, origin: Point, [a, b, c]: Triangle) -> Option<f64> {
         let (e1, e2) = (sub(b, a), sub(c, a));
         let p = cross([1.0, 0.0, 0.0], e2);
+        let dot = |[a, b, c]: Point, [d, e, f]: Point| match self.fault {
+            Fault::DotFromTheRight => a * d + (b * e + c * f),
+            _ => dot([a, b, c], [d, e, f]),
+        };
         let determinant = dot(e1, p);
         let size = if self.has(Fault::OneSided) {
             determinant
@@ -340,17 +367,23 @@ impl Plain {
         let u = over(dot(s, p));
         let edge =
             u == 0.0 && self.has(Fault::UAboveZero) || u == 1.0 && self.has(Fault::UBelowOne);
-        if u < 0.0 || u > 1.0 || edge {
+        let outside = u < 0.0 || u > 1.0;
+        if outside && !self.has(Fault::UNotTested) || edge {
             return None;
         }
         let q = cross(s, e1);
         let v = over(q[0]);
         let edge =
             v == 0.0 && self.has(Fault::VAboveZero) || u + v == 1.0 && self.has(Fault::SumBelowOne);
-        if v < 0.0 || u + v > 1.0 || edge {
+        let below = v < 0.0 && !self.has(Fault::VNotTested);
+        let above = u + v > 1.0 && !self.has(Fault::SumNotTested);
+        if below || above || edge {
             return None;
         }
         let t = over(dot(e2, q));
+        if t < 0.0 && self.has(Fault::BehindCrossed) {
+            return Some(t);
+        }
         (t > 1e-12 || t == 1e-12 && self.has(Fault::DistanceAtEps)).then_some(t)
     }
 
@@ -396,6 +429,11 @@ impl Plain {
         }
         (retained % 2 == 1) != self.has(Fault::EvenIsInside)
     }
+}
+
+/// The ray test with a fault.
+pub(crate) fn plain_ray(fault: Fault, point: Point, triangle: Triangle) -> Option<f64> {
+    Plain::new(fault, vec![triangle]).ray(point, triangle)
 }
 
 /// Inside with a fault.

@@ -18,7 +18,7 @@ pub(crate) const HEAVIEST: f64 = 1e30;
 const INDICES: u32 = 96;
 
 /// A determinant below this is a miss, and so is a distance not above it.
-const EPS: f64 = 1e-12;
+pub(crate) const EPS: f64 = 1e-12;
 
 /// A raw sum up to this magnitude is not scaled.
 const NO_SUM: f64 = 1e-30;
@@ -104,23 +104,41 @@ fn dot(a: Point, b: Point) -> f64 {
     a[0] * b[0] + a[1] * b[1] + a[2] * b[2]
 }
 
-/// The distance at which the ray along +X from a point crosses a triangle, or a miss.
-pub(crate) fn crossing(origin: Point, [a, b, c]: Triangle) -> Option<f64> {
+/// What the steps of the ray test along +X give; where the determinant is 0, the others mean nothing.
+pub(crate) struct Steps {
+    pub(crate) determinant: f64,
+    pub(crate) u: f64,
+    pub(crate) v: f64,
+    pub(crate) distance: f64,
+}
+
+pub(crate) fn steps(origin: Point, [a, b, c]: Triangle) -> Steps {
     let along = [1.0, 0.0, 0.0];
     let (e1, e2) = (sub(b, a), sub(c, a));
     let p = cross(along, e2);
     let determinant = dot(e1, p);
-    if determinant.abs() < EPS {
-        return None;
-    }
     let inverse = 1.0 / determinant;
     let s = sub(origin, a);
-    let u = inverse * dot(s, p);
     let q = cross(s, e1);
-    let v = inverse * dot(along, q);
-    let distance = inverse * dot(e2, q);
-    let hit = (0.0..=1.0).contains(&u) && v >= 0.0 && u + v <= 1.0 && distance > EPS;
-    hit.then_some(distance)
+    Steps {
+        determinant,
+        u: inverse * dot(s, p),
+        v: inverse * dot(along, q),
+        distance: inverse * dot(e2, q),
+    }
+}
+
+/// The distance at which the ray along +X from a point crosses a triangle, or a miss.
+pub(crate) fn crossing(origin: Point, triangle: Triangle) -> Option<f64> {
+    let Steps {
+        determinant,
+        u,
+        v,
+        distance,
+    } = steps(origin, triangle);
+    let miss = determinant.abs() < EPS;
+    let within = (0.0..=1.0).contains(&u) && v >= 0.0 && u + v <= 1.0;
+    (!miss && within && distance > EPS).then_some(distance)
 }
 
 /// Sorted crossings without each that lies within the tolerance of the last one retained.
