@@ -1,0 +1,522 @@
+//! Point files and trees judged in full: every fault with its cause, record, field and byte.
+
+use crate::points::{float_at, half_at, word_at, HEADER, POINTS_WORD, RECORD};
+use crate::tree::{NODE, TREE_WORD};
+use crate::{cells, Point, Refusal, MAX_GRID};
+use std::fmt;
+
+/// What a fault stands in.
+#[derive(Clone, Copy, Debug, PartialEq, Eq)]
+pub enum Place {
+    /// The file as a whole.
+    File,
+    /// The header.
+    Header,
+    /// A record of a point file, from 0.
+    Record(usize),
+    /// A node of a tree, from 0.
+    Node(usize),
+    /// An order word of a tree, from 0.
+    Order(usize),
+}
+
+/// A fault of a file.
+#[derive(Clone, Debug, PartialEq, Eq)]
+pub struct Fault {
+    /// The cause by which a point file is refused, none in a tree.
+    pub cause: Option<Refusal>,
+    /// What it stands in.
+    pub place: Place,
+    /// The field's name.
+    pub field: &'static str,
+    /// The field's first byte, from 0.
+    pub offset: usize,
+    /// What is wrong.
+    pub why: String,
+}
+
+impl fmt::Display for Fault {
+    fn fmt(&self, f: &mut fmt::Formatter<'_>) -> fmt::Result {
+        if let Some(cause) = self.cause {
+            write!(f, "cause {}: ", cause.number())?;
+        }
+        match self.place {
+            Place::File => write!(f, "file")?,
+            Place::Header => write!(f, "header")?,
+            Place::Record(i) => write!(f, "record {i}")?,
+            Place::Node(i) => write!(f, "node {i}")?,
+            Place::Order(i) => write!(f, "order word {i}")?,
+        }
+        write!(f, ", {}, byte {}: {}", self.field, self.offset, self.why)
+    }
+}
+
+impl std::error::Error for Fault {}
+
+/// The faults of a file.
+#[derive(Clone, Debug, Default, PartialEq, Eq)]
+pub struct Report {
+    /// The first ones, as many as were asked for.
+    pub faults: Vec<Fault>,
+    /// How many there are.
+    pub total: usize,
+    most: usize,
+}
+
+impl Report {
+    fn new(most: usize) -> Report {
+        Report {
+            most,
+            ..Report::default()
+        }
+    }
+
+    /// Whether there is no fault.
+    pub fn is_clean(&self) -> bool {
+        self.total == 0
+    }
+
+    fn add(
+        &mut self,
+        cause: impl Into<Option<Refusal>>,
+        place: Place,
+        field: &'static str,
+        offset: usize,
+        why: String,
+    ) {
+        self.total += 1;
+        if self.faults.len() < self.most {
+            self.faults.push(Fault {
+                cause: cause.into(),
+                place,
+                field,
+                offset,
+                why,
+            });
+        }
+    }
+}
+
+const BOX_FIELDS: [[&str; 2]; 3] = [
+    ["box min x", "box max x"],
+    ["box min y", "box max y"],
+    ["box min z", "box max z"],
+];
+
+fn header_floats(
+    report: &mut Report,
+    bytes: &[u8],
+    names: [&'static str; 3],
+    cause: Option<Refusal>,
+) {
+    for (i, name) in names.into_iter().enumerate() {
+        let value = float_at(bytes, 16 + 4 * i);
+        if !value.is_finite() {
+            report.add(
+                cause,
+                Place::Header,
+                name,
+                16 + 4 * i,
+                format!("{value} is not finite"),
+            );
+        }
+    }
+    for (axis, names) in BOX_FIELDS.into_iter().enumerate() {
+        let at = [32 + 4 * axis, 44 + 4 * axis];
+        let ends = at.map(|at| float_at(bytes, at));
+        for i in 0..2 {
+            if !ends[i].is_finite() {
+                report.add(
+                    cause,
+                    Place::Header,
+                    names[i],
+                    at[i],
+                    format!("{} is not finite", ends[i]),
+                );
+            }
+        }
+        if ends[0].is_finite() && ends[1].is_finite() && ends[0] >= ends[1] {
+            let why = format!("min {} is not below max {}", ends[0], ends[1]);
+            report.add(cause, Place::Header, names[0], at[0], why);
+        }
+    }
+}
+
+/// The faults of a point file, causes 1 to 7, `most` of them listed. The first one's cause is the one by which it is refused.
+///
+/// ```
+/// use mascon::{check::check_points, shapes, Model, Refusal};
+///
+/// let mut file = shapes::empty_file(4, [0.0; 3], [4.0; 3]);
+/// file[8] = 0;
+/// let report = check_points(&file, 10);
+/// assert_eq!(report.faults[0].to_string(), "cause 3: header, grid, byte 8: 0 is not 1 to 256");
+/// ```
+pub fn check_points(bytes: &[u8], most: usize) -> Report {
+    let mut report = Report::new(most);
+    if bytes.len() < HEADER {
+        let why = format!("{} bytes, a header has 64", bytes.len());
+        report.add(
+            Refusal::FileTooShort,
+            Place::File,
+            "length",
+            bytes.len(),
+            why,
+        );
+        return report;
+    }
+    let [word, version, grid, count] = [0, 4, 8, 12].map(|at| word_at(bytes, at));
+    if word != POINTS_WORD {
+        let why = format!("{word:#010x} is not {POINTS_WORD:#010x} (RYM1)");
+        report.add(Refusal::NotPointFile, Place::Header, "word 0", 0, why);
+        return report;
+    }
+    if version != 1 {
+        report.add(
+            Refusal::NotPointFile,
+            Place::Header,
+            "version",
+            4,
+            format!("{version} is not 1"),
+        );
+    }
+    let grid_fits = (1..=MAX_GRID).contains(&grid);
+    if !grid_fits {
+        report.add(
+            Refusal::GridOutOfRange,
+            Place::Header,
+            "grid",
+            8,
+            format!("{grid} is not 1 to 256"),
+        );
+    }
+    let there = (bytes.len() - HEADER) / RECORD;
+    if there < count as usize {
+        let why = format!("{count} records are counted, {there} are there");
+        report.add(Refusal::RecordsMissing, Place::Header, "count", 12, why);
+    }
+    header_floats(
+        &mut report,
+        bytes,
+        ["density", "cell volume", "scale"],
+        Some(Refusal::BadHeaderFloat),
+    );
+    for i in 0..there.min(count as usize) {
+        let at = HEADER + RECORD * i;
+        if grid_fits {
+            for (axis, name) in ["x", "y", "z"].into_iter().enumerate() {
+                let index = u32::from(half_at(bytes, at + 2 * axis));
+                if index >= grid {
+                    let why = format!("{index} is not below the grid, {grid}");
+                    report.add(
+                        Refusal::CoordinateOutOfGrid,
+                        Place::Record(i),
+                        name,
+                        at + 2 * axis,
+                        why,
+                    );
+                }
+            }
+        }
+        for (offset, name) in [(8, "Cauchy mass"), (12, "elliptic mass")] {
+            let mass = float_at(bytes, at + offset);
+            if !mass.is_finite() {
+                let why = format!("{mass} is not finite");
+                report.add(
+                    Refusal::MassNotFinite,
+                    Place::Record(i),
+                    name,
+                    at + offset,
+                    why,
+                );
+            }
+        }
+    }
+    report
+}
+
+/// What keeps an accepted point file from working form (cause 10 of the edits; opening it mends that), `most` listed.
+pub fn check_working_form(bytes: &[u8], most: usize) -> Report {
+    let mut report = Report::new(most);
+    if bytes.len() < HEADER {
+        return report;
+    }
+    let count = word_at(bytes, 12) as usize;
+    let mut last = None;
+    for i in 0..count.min((bytes.len() - HEADER) / RECORD) {
+        let at = HEADER + RECORD * i;
+        let Point { x, y, z, .. } = Point::at(bytes, i);
+        // The order of cell numbers, wherever these lie in the grid.
+        let cell = [z, y, x];
+        if last.is_some_and(|last| cell <= last) {
+            let why = if last == Some(cell) {
+                format!("cell ({x}, {y}, {z}) again: the later record counts")
+            } else {
+                format!("cell ({x}, {y}, {z}) stands after a later cell")
+            };
+            report.add(Refusal::NotWorkingForm, Place::Record(i), "x", at, why);
+        }
+        last = Some(cell);
+        let pad = half_at(bytes, at + 6);
+        if pad != 0 {
+            report.add(
+                Refusal::NotWorkingForm,
+                Place::Record(i),
+                "pad",
+                at + 6,
+                format!("{pad} is not 0"),
+            );
+        }
+    }
+    report
+}
+
+/// A box of cells, ends excluded.
+#[derive(Clone, Copy)]
+struct Cells {
+    low: [u32; 3],
+    high: [u32; 3],
+}
+
+impl Cells {
+    fn width(&self, axis: usize) -> u32 {
+        self.high[axis] - self.low[axis]
+    }
+
+    fn one_cell(&self) -> bool {
+        (0..3).all(|axis| self.width(axis) == 1)
+    }
+
+    /// The widest axis is split, ties to x, then y.
+    fn halves(self) -> [Cells; 2] {
+        let mut axis = 0;
+        for other in 1..3 {
+            if self.width(other) > self.width(axis) {
+                axis = other;
+            }
+        }
+        let middle = self.low[axis] + self.width(axis) / 2;
+        let (mut left, mut right) = (self, self);
+        left.high[axis] = middle;
+        right.low[axis] = middle;
+        [left, right]
+    }
+}
+
+struct TreeWalk<'a> {
+    bytes: &'a [u8],
+    nodes: usize,
+    min: [f64; 3],
+    cell: [f64; 3],
+    /// The next node in preorder.
+    next: usize,
+    /// Points of the leaves so far.
+    ordered: u32,
+    report: Report,
+}
+
+impl TreeWalk<'_> {
+    fn fault(&mut self, node: usize, field: &'static str, offset: usize, why: String) {
+        let offset = HEADER + NODE * node + offset;
+        self.report.add(None, Place::Node(node), field, offset, why);
+    }
+
+    fn expect(&mut self, node: usize, field: &'static str, offset: usize, wanted: f32) {
+        let found = float_at(self.bytes, HEADER + NODE * node + offset);
+        if found.to_bits() != wanted.to_bits() {
+            self.fault(node, field, offset, format!("{found}, should be {wanted}"));
+        }
+    }
+
+    /// Judges the subtree of the next node; its place and its count, or none where the nodes end or a count is none.
+    fn walk(&mut self, cells: Cells) -> Option<(usize, u32)> {
+        let node = self.next;
+        if node >= self.nodes {
+            let why = format!("the tree goes on after its {} nodes", self.nodes);
+            self.report.add(None, Place::Header, "node count", 56, why);
+            return None;
+        }
+        self.next += 1;
+        self.judge_box(node, cells);
+        let found = float_at(self.bytes, HEADER + NODE * node + 76);
+        let volume = (0..3).map(|axis| cells.width(axis)).product::<u32>();
+        if !(0.0..=volume as f32).contains(&found)
+            || found.fract() != 0.0
+            || found.is_sign_negative()
+        {
+            self.fault(
+                node,
+                "count",
+                76,
+                format!("{found} is not a count of 0 to {volume}"),
+            );
+            return None;
+        }
+        let count = found as u32;
+        let leaf = count > 0 && (count <= 8 || cells.one_cell());
+        if count == 0 || leaf {
+            self.expect(node, "left", 24, -1.0);
+            self.expect(node, "right", 28, -1.0);
+        }
+        self.expect(
+            node,
+            "leaf start",
+            44,
+            if leaf { self.ordered as f32 } else { 0.0 },
+        );
+        self.expect(node, "leaf count", 60, if leaf { found } else { 0.0 });
+        if leaf {
+            self.ordered += count;
+        } else if count > 0 {
+            let [left, right] = cells.halves();
+            let link = |(place, count): (usize, u32)| if count == 0 { -1.0 } else { place as f32 };
+            let left = self.walk(left)?;
+            let right = self.walk(right)?;
+            self.expect(node, "left", 24, link(left));
+            self.expect(node, "right", 28, link(right));
+            if left.1 + right.1 != count {
+                let why = format!("{count}, its children have {} and {}", left.1, right.1);
+                self.fault(node, "count", 76, why);
+            }
+        }
+        Some((node, count))
+    }
+
+    fn judge_box(&mut self, node: usize, Cells { low, high }: Cells) {
+        let names = ["centre x", "centre y", "centre z"];
+        let [low, high] = [low, high].map(|ends| ends.map(f64::from));
+        let mut half = 0.0_f64;
+        for axis in 0..3 {
+            let center = self.min[axis] + (low[axis] + high[axis]) * 0.5 * self.cell[axis];
+            self.expect(node, names[axis], 4 * axis, center as f32);
+            half = half.max((high[axis] - low[axis]) * 0.5 * self.cell[axis]);
+        }
+        self.expect(node, "half", 12, half as f32);
+    }
+}
+
+/// The faults of a tree file (RTM1, version 2), `most` of them listed: header, boxes, links, counts, leaf ranges and order. Masses and
+/// centres of mass are not judged, they take the point file.
+///
+/// ```
+/// use mascon::{check::check_tree, shapes, Model};
+///
+/// let (mesh, kernels) = shapes::contact_binary(6);
+/// let tree = Model::fill(&mesh, &kernels, &kernels, 0.0, 1.0, 8)?.tree();
+/// assert!(check_tree(tree.as_bytes(), 10).is_clean());
+/// # Ok::<(), mascon::Refusal>(())
+/// ```
+pub fn check_tree(bytes: &[u8], most: usize) -> Report {
+    let mut report = Report::new(most);
+    if bytes.len() < HEADER {
+        let why = format!("{} bytes, a header has 64", bytes.len());
+        report.add(None, Place::File, "length", bytes.len(), why);
+        return report;
+    }
+    let [word, version, grid, count, nodes] = [0, 4, 8, 12, 56].map(|at| word_at(bytes, at));
+    let nodes = nodes as usize;
+    for (name, at, found, wanted) in [("word 0", 0, word, TREE_WORD), ("version", 4, version, 2)] {
+        if found != wanted {
+            report.add(
+                None,
+                Place::Header,
+                name,
+                at,
+                format!("{found:#x} is not {wanted:#x}"),
+            );
+            return report;
+        }
+    }
+    if !(1..=MAX_GRID).contains(&grid) {
+        report.add(
+            None,
+            Place::Header,
+            "grid",
+            8,
+            format!("{grid} is not 1 to 256"),
+        );
+        return report;
+    }
+    header_floats(
+        &mut report,
+        bytes,
+        ["scale", "density", "cell volume"],
+        None,
+    );
+    for at in [28, 60] {
+        if word_at(bytes, at) != 0 {
+            report.add(
+                None,
+                Place::Header,
+                "unused word",
+                at,
+                format!("{:#x} is not 0", word_at(bytes, at)),
+            );
+        }
+    }
+    if nodes == 0 || nodes > 2 * cells(grid) - 1 || nodes > (bytes.len() - HEADER) / NODE {
+        let why = format!(
+            "{nodes} nodes do not fit grid {grid} and {} bytes",
+            bytes.len()
+        );
+        report.add(None, Place::Header, "node count", 56, why);
+        return report;
+    }
+    if !report.is_clean() {
+        return report;
+    }
+    let ends = |at: usize| crate::points::floats_at(bytes, at).map(f64::from);
+    let (min, max) = (ends(32), ends(44));
+    let mut walk = TreeWalk {
+        bytes,
+        nodes,
+        min,
+        cell: [0, 1, 2].map(|axis| (max[axis] - min[axis]) / f64::from(grid)),
+        next: 0,
+        ordered: 0,
+        report,
+    };
+    let whole = walk.walk(Cells {
+        low: [0; 3],
+        high: [grid; 3],
+    });
+    let (next, ordered, mut report) = (walk.next, walk.ordered, walk.report);
+    if whole.is_none() {
+        return report;
+    }
+    if next != nodes {
+        let why = format!("{nodes} nodes, the tree has {next}");
+        report.add(None, Place::Header, "node count", 56, why);
+    }
+    let first = HEADER + NODE * nodes;
+    let wanted = first + 4 * ordered as usize;
+    if bytes.len() != wanted {
+        let why = format!(
+            "{} bytes, {nodes} nodes and {ordered} points take {wanted}",
+            bytes.len()
+        );
+        report.add(None, Place::File, "length", bytes.len().min(wanted), why);
+        return report;
+    }
+    let mut seen = vec![false; (count as usize).min(1 << 28)];
+    for i in 0..ordered as usize {
+        let index = word_at(bytes, first + 4 * i);
+        match seen.get_mut(index as usize) {
+            None => {
+                let why = format!("{index} is not below the point count, {count}");
+                report.add(None, Place::Order(i), "index", first + 4 * i, why);
+            }
+            Some(true) => {
+                report.add(
+                    None,
+                    Place::Order(i),
+                    "index",
+                    first + 4 * i,
+                    format!("{index} again"),
+                );
+            }
+            Some(seen) => *seen = true,
+        }
+    }
+    report
+}

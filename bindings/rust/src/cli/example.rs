@@ -1,0 +1,76 @@
+//! The command example: a contact binary to try the others on.
+
+use super::args::Args;
+use super::{say, write, Failure};
+use mascon::text::write_obj;
+use mascon::{shapes, Kernel};
+use std::fmt::Write as _;
+use std::path::Path;
+
+fn kernel_list(heading: &str, kernels: &[Kernel]) -> String {
+    let mut text = format!("# {heading}: x y z sigma w, in metres, 1/metre and kg/m^3\n");
+    for Kernel {
+        c: [x, y, z],
+        sigma,
+        w,
+    } in kernels
+    {
+        let _ = writeln!(text, "{x} {y} {z} {sigma} {w}");
+    }
+    text
+}
+
+/// A boulder on the larger body, a hollow at the neck, and a cell that is corrected twice; for grid 32.
+const EDITS: &str = "\
+# a boulder on top of the larger body
+put 9 16 31 9.0e8 9.0e8
+put 10 16 31 9.0e8 9.0e8
+put 9 17 31 9.0e8 9.0e8
+put 10 17 31 9.0e8 9.0e8
+# a void inside it
+remove 8 14 15
+remove 8 15 15
+remove 9 14 15
+remove 9 15 15
+remove 9 16 15
+# denser matter in the smaller body
+put 24 15 16 3.0e8 3.0e8
+put 25 15 16 3.0e8 3.0e8
+put 25 16 16 4.0e8 4.0e8
+# that was too much
+undo
+put 25 16 16 3.0e8 3.0e8
+";
+
+pub(crate) fn example(args: &Args) -> Result<(), Failure> {
+    let folder = Path::new(args.word(0));
+    let rings = args.number("--rings", 24_usize)?;
+    if !(4..=256).contains(&rings) {
+        return Err(Failure::usage(format!("--rings: {rings} is not 4 to 256")));
+    }
+    let failed = |error| Failure::failed(format!("{}: {error}", folder.display()));
+    std::fs::create_dir_all(folder).map_err(failed)?;
+    let (mesh, cauchy) = shapes::contact_binary(rings);
+    // The elliptic list: wider kernels in the same places.
+    let wider = |kernel: &Kernel| Kernel {
+        sigma: kernel.sigma / 2.0,
+        ..*kernel
+    };
+    let elliptic: Vec<Kernel> = cauchy.iter().map(wider).collect();
+    write(&folder.join("binary.obj"), write_obj(&mesh).as_bytes())?;
+    write(
+        &folder.join("cauchy.txt"),
+        kernel_list("Cauchy kernels", &cauchy).as_bytes(),
+    )?;
+    write(
+        &folder.join("elliptic.txt"),
+        kernel_list("elliptic kernels", &elliptic).as_bytes(),
+    )?;
+    write(&folder.join("edits.txt"), EDITS.as_bytes())?;
+    say(format!(
+        "{}: binary.obj ({} triangles), cauchy.txt, elliptic.txt, edits.txt\n",
+        folder.display(),
+        mesh.len()
+    ));
+    Ok(())
+}

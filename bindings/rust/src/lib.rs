@@ -1,0 +1,41 @@
+#![doc = include_str!("../README.md")]
+#![deny(missing_docs)]
+#![deny(unsafe_code)]
+
+pub mod check;
+pub mod draw;
+mod ffi;
+mod fill;
+mod model;
+mod points;
+mod refusal;
+mod save;
+mod session;
+pub mod shapes;
+pub mod text;
+mod tree;
+
+pub use fill::{build_mascon, is_inside, narrow, Kernel, Triangle};
+pub use model::{Change, Entry, Model, MAX_ENTRIES};
+pub use points::{build_mascon_tree, parse_mascon_bytes, Header, MasconSource, Point, Points};
+pub use refusal::{Labelled, Refusal};
+pub use save::write_file;
+pub use session::{journal_entries, journal_path, Session, SessionError};
+pub use tree::{Node, Tree};
+
+/// The finest grid: cells on each axis.
+pub const MAX_GRID: u32 = 256;
+
+/// How many cells a grid has.
+pub(crate) fn cells(grid: u32) -> usize {
+    let grid = grid as usize;
+    grid * grid * grid
+}
+
+/// Opens a point file; see [`Model::open`].
+///
+/// # Errors
+/// 1 to 7.
+pub fn open(bytes: &[u8]) -> Result<Model, Refusal> {
+    Model::open(bytes)
+}

@@ -1,0 +1,269 @@
+use crate::{cells, ffi, Labelled, Refusal};
+
+/// The length of a point file's header.
+pub(crate) const HEADER: usize = 64;
+/// The length of a record.
+pub(crate) const RECORD: usize = 16;
+/// Word 0 of a point file: RYM1.
+pub(crate) const POINTS_WORD: u32 = 0x314d_5952;
+
+pub(crate) fn word_at(bytes: &[u8], at: usize) -> u32 {
+    u32::from_le_bytes([bytes[at], bytes[at + 1], bytes[at + 2], bytes[at + 3]])
+}
+
+pub(crate) fn half_at(bytes: &[u8], at: usize) -> u16 {
+    u16::from_le_bytes([bytes[at], bytes[at + 1]])
+}
+
+pub(crate) fn float_at(bytes: &[u8], at: usize) -> f32 {
+    f32::from_bits(word_at(bytes, at))
+}
+
+pub(crate) fn floats_at(bytes: &[u8], at: usize) -> [f32; 3] {
+    [0, 4, 8].map(|axis| float_at(bytes, at + axis))
+}
+
+/// An occupied cell with its two masses.
+#[derive(Clone, Copy, Debug, PartialEq)]
+pub struct Point {
+    /// The cell's index on x, from 0.
+    pub x: u32,
+    /// The cell's index on y, from 0.
+    pub y: u32,
+    /// The cell's index on z, from 0.
+    pub z: u32,
+    /// The mass by the Cauchy kernels, in kilograms.
+    pub cauchy_mass: f32,
+    /// The mass by the elliptic kernels, in kilograms.
+    pub elliptic_mass: f32,
+}
+
+impl Point {
+    pub(crate) fn at(bytes: &[u8], record: usize) -> Point {
+        let at = HEADER + RECORD * record;
+        let [x, y, z] = [0, 2, 4].map(|axis| u32::from(half_at(bytes, at + axis)));
+        Point {
+            x,
+            y,
+            z,
+            cauchy_mass: float_at(bytes, at + 8),
+            elliptic_mass: float_at(bytes, at + 12),
+        }
+    }
+
+    /// The cell's number in a grid, `(z * grid + y) * grid + x`, none outside it or where the grid is above 256.
+    ///
+    /// ```
+    /// let point = mascon::Point { x: 1, y: 2, z: 3, cauchy_mass: 1.0, elliptic_mass: 1.0 };
+    /// assert_eq!((point.cell(4), point.cell(3)), (Some(57), None));
+    /// ```
+    pub fn cell(&self, grid: u32) -> Option<u32> {
+        let inside = [self.x, self.y, self.z].iter().all(|&index| index < grid);
+        (inside && grid <= crate::MAX_GRID).then(|| (self.z * grid + self.y) * grid + self.x)
+    }
+}
+
+/// The header of a point file.
+#[derive(Clone, Copy, Debug, PartialEq)]
+pub struct Header {
+    /// Cells on each axis, 1 to 256.
+    pub grid: u32,
+    /// How many records follow.
+    pub count: u32,
+    /// The constant density, in kilograms per cubic metre.
+    pub constant_density: f32,
+    /// A cell's volume, in cubic metres.
+    pub cell_volume: f32,
+    /// What the Cauchy masses were multiplied by.
+    pub cauchy_scale: f32,
+    /// The box's least corner, in metres.
+    pub min: [f32; 3],
+    /// The box's greatest corner, in metres.
+    pub max: [f32; 3],
+    /// The sum of the Cauchy masses before scaling, when the file was filled. Edits leave it.
+    pub cauchy_raw: f32,
+    /// The sum of the elliptic masses before scaling, when the file was filled. Edits leave it.
+    pub elliptic_raw: f32,
+}
+
+impl Header {
+    pub(crate) fn of(bytes: &[u8]) -> Header {
+        Header {
+            grid: word_at(bytes, 8),
+            count: word_at(bytes, 12),
+            constant_density: float_at(bytes, 16),
+            cell_volume: float_at(bytes, 20),
+            cauchy_scale: float_at(bytes, 24),
+            min: floats_at(bytes, 32),
+            max: floats_at(bytes, 44),
+            cauchy_raw: float_at(bytes, 56),
+            elliptic_raw: float_at(bytes, 60),
+        }
+    }
+
+    /// A cell's edges in metres.
+    pub fn cell_size(&self) -> [f64; 3] {
+        let edge = |axis: usize| {
+            (f64::from(self.max[axis]) - f64::from(self.min[axis])) / f64::from(self.grid)
+        };
+        [edge(0), edge(1), edge(2)]
+    }
+
+    /// The middle of a cell in metres.
+    pub fn middle(&self, x: u32, y: u32, z: u32) -> [f64; 3] {
+        let cell = self.cell_size();
+        let middle = |axis: usize, index: u32| {
+            f64::from(self.min[axis]) + (f64::from(index) + 0.5) * cell[axis]
+        };
+        [middle(0, x), middle(1, y), middle(2, z)]
+    }
+
+    /// The cell that a place in metres lies in, or none outside the box.
+    pub fn cell_at(&self, place: [f64; 3]) -> Option<[u32; 3]> {
+        let cell = self.cell_size();
+        let mut indices = [0; 3];
+        for axis in 0..3 {
+            let scaled = (place[axis] - f64::from(self.min[axis])) / cell[axis];
+            if !(0.0..f64::from(self.grid)).contains(&scaled) {
+                return None;
+            }
+            indices[axis] = scaled as u32;
+        }
+        Some(indices)
+    }
+}
+
+/// The points of a file, in file order.
+#[derive(Clone, Debug)]
+pub struct Points<'a> {
+    bytes: &'a [u8],
+    records: std::ops::Range<usize>,
+}
+
+impl<'a> Points<'a> {
+    pub(crate) fn of(bytes: &'a [u8]) -> Points<'a> {
+        let records = 0..word_at(bytes, 12) as usize;
+        Points { bytes, records }
+    }
+}
+
+impl Iterator for Points<'_> {
+    type Item = Point;
+
+    fn next(&mut self) -> Option<Point> {
+        self.records.next().map(|i| Point::at(self.bytes, i))
+    }
+
+    fn size_hint(&self) -> (usize, Option<usize>) {
+        self.records.size_hint()
+    }
+}
+
+impl DoubleEndedIterator for Points<'_> {
+    fn next_back(&mut self) -> Option<Point> {
+        self.records.next_back().map(|i| Point::at(self.bytes, i))
+    }
+}
+
+impl ExactSizeIterator for Points<'_> {}
+
+/// The grid that a file's header gives, where it is 1 to 256.
+pub(crate) fn grid_of(file: &[u8]) -> Option<u32> {
+    let grid = (file.len() >= HEADER).then(|| word_at(file, 8))?;
+    (1..=crate::MAX_GRID).contains(&grid).then_some(grid)
+}
+
+/// Causes 1 to 7 of a file. With no word of scratch, open answers 8 exactly where none of them holds.
+pub(crate) fn judge(file: &[u8]) -> Result<(), Refusal> {
+    match ffi::open(file, &mut [], &mut [], &mut []) {
+        Err(Refusal::ScratchTooShort) => Ok(()),
+        Err(refusal) => Err(refusal),
+        Ok(_) => unreachable!("a grid has at least one cell, which takes a word of scratch"),
+    }
+}
+
+/// Scratch for a file: a word for each cell.
+pub(crate) fn scratch(file: &[u8]) -> Vec<u32> {
+    vec![0; grid_of(file).map_or(0, cells)]
+}
+
+/// A point file that was judged, its records as they stand: repeated cells and their order are kept.
+///
+/// For edits, make it a [`Model`](crate::Model) with [`open`](MasconSource::open).
+#[derive(Clone, Debug)]
+pub struct MasconSource {
+    bytes: Vec<u8>,
+}
+
+impl MasconSource {
+    /// The header.
+    pub fn header(&self) -> Header {
+        Header::of(&self.bytes)
+    }
+
+    /// Cells on each axis.
+    pub fn grid(&self) -> usize {
+        self.header().grid as usize
+    }
+
+    /// How many records it has.
+    pub fn count(&self) -> usize {
+        self.header().count as usize
+    }
+
+    /// The records in file order. Where two name one cell, the later counts.
+    pub fn points(&self) -> Points<'_> {
+        Points::of(&self.bytes)
+    }
+
+    /// The file.
+    pub fn as_bytes(&self) -> &[u8] {
+        &self.bytes
+    }
+
+    /// The model of these points.
+    pub fn open(&self) -> crate::Model {
+        crate::Model::open(&self.bytes).expect("judged when it was parsed")
+    }
+}
+
+/// Judges a point file and keeps it as it stands, with the original's name and arguments.
+///
+/// ```
+/// let file = mascon::shapes::empty_file(4, [-1.0; 3], [1.0; 3]);
+/// let source = mascon::parse_mascon_bytes(&file, "runtime Mascon source")?;
+/// assert_eq!((source.grid(), source.count()), (4, 0));
+/// # Ok::<(), mascon::Labelled>(())
+/// ```
+///
+/// # Errors
+/// 1 to 7, with the label.
+pub fn parse_mascon_bytes(bytes: &[u8], label: &str) -> Result<MasconSource, Labelled> {
+    match judge(bytes) {
+        Ok(()) => {
+            let length = HEADER + RECORD * word_at(bytes, 12) as usize;
+            let bytes = bytes[..length].to_vec();
+            Ok(MasconSource { bytes })
+        }
+        Err(refusal) => Err(Labelled {
+            label: label.to_string(),
+            refusal,
+        }),
+    }
+}
+
+/// Builds the tree of a point file, with the original's name, arguments and answer: its bytes (RTM1), how many nodes and how many
+/// ordered points it has.
+///
+/// ```
+/// let file = mascon::shapes::empty_file(1, [0.0; 3], [2.0; 3]);
+/// let source = mascon::parse_mascon_bytes(&file, "runtime Mascon source")?;
+/// let (tree, nodes, ordered) = mascon::build_mascon_tree(&source);
+/// assert_eq!((tree.len(), nodes, ordered), (144, 1, 0));
+/// # Ok::<(), mascon::Labelled>(())
+/// ```
+pub fn build_mascon_tree(source: &MasconSource) -> (Vec<u8>, usize, usize) {
+    let tree = crate::Tree::build(&source.bytes).expect("judged when it was parsed");
+    let (nodes, order) = (tree.node_count(), tree.order_count());
+    (tree.into_bytes(), nodes, order)
+}

@@ -1,0 +1,68 @@
+use std::fs::{self, File, OpenOptions};
+use std::io::{self, Write};
+use std::path::{Path, PathBuf};
+
+/// A path with an ending added to its name.
+pub(crate) fn beside(path: &Path, ending: &str) -> PathBuf {
+    let mut name = path.file_name().unwrap_or_default().to_os_string();
+    name.push(ending);
+    path.with_file_name(name)
+}
+
+/// What a path leads to: a link is followed, so that the file behind it is replaced and not the link.
+pub(crate) fn target(path: &Path) -> PathBuf {
+    fs::canonicalize(path).unwrap_or_else(|_| path.to_path_buf())
+}
+
+/// Makes a file with these bytes, whole and on the disk, with the rights of `like` where that is there.
+pub(crate) fn write_whole(file: &mut File, bytes: &[u8], like: &Path) -> io::Result<()> {
+    file.write_all(bytes)?;
+    if let Ok(old) = fs::metadata(like) {
+        file.set_permissions(old.permissions())?;
+    }
+    file.sync_all()
+}
+
+/// Writes a file beside `path` and renames it: `path` has the old bytes or the new ones, never a part.
+///
+/// On failure `path` is as it was, and nothing is left beside it.
+///
+/// # Errors
+/// Those of the file system.
+pub fn write_file(path: impl AsRef<Path>, bytes: &[u8]) -> io::Result<()> {
+    let path = &target(path.as_ref());
+    if path.file_name().is_none() || path.is_dir() {
+        return Err(io::Error::new(
+            io::ErrorKind::InvalidInput,
+            "not the name of a file",
+        ));
+    }
+    let (mut file, new) = create_beside(path)?;
+    let done = write_whole(&mut file, bytes, path).and_then(|()| fs::rename(&new, path));
+    match &done {
+        Ok(()) => sync_folder(path),
+        Err(_) => drop(fs::remove_file(&new)),
+    }
+    done
+}
+
+/// A new file beside `path`, under a name that no other has.
+fn create_beside(path: &Path) -> io::Result<(File, PathBuf)> {
+    let mut number = 0;
+    loop {
+        let new = beside(path, &format!(".new-{}-{number}", std::process::id()));
+        match OpenOptions::new().write(true).create_new(true).open(&new) {
+            Err(error) if error.kind() == io::ErrorKind::AlreadyExists => number += 1,
+            created => return created.map(|file| (file, new)),
+        }
+    }
+}
+
+/// Brings a rename to the disk before what follows it. Not every file system can, and the files are whole either way.
+pub(crate) fn sync_folder(path: &Path) {
+    let folder = path
+        .parent()
+        .filter(|folder| !folder.as_os_str().is_empty());
+    let folder = folder.unwrap_or(Path::new("."));
+    let _ = File::open(folder).and_then(|folder| folder.sync_all());
+}

@@ -1,0 +1,298 @@
+use crate::save::{beside, sync_folder, target, write_whole};
+use crate::{Model, Refusal};
+use std::fmt;
+use std::fs::{self, File, TryLockError};
+use std::io::{self, Read};
+use std::path::{Path, PathBuf};
+
+/// Word 0 of a journal file: MSJ1.
+const JOURNAL_WORD: u32 = 0x314a_534d;
+const JOURNAL_HEADER: usize = 24;
+
+/// Why a model file and its journal could not be taken up or written.
+#[derive(Debug)]
+#[non_exhaustive]
+pub enum SessionError {
+    /// The file system refused, at this file.
+    File(PathBuf, io::Error),
+    /// The model is refused.
+    Model(PathBuf, Refusal),
+    /// Another run has the model open.
+    InUse(PathBuf),
+    /// The journal is cut off or no journal.
+    BadJournal(PathBuf, &'static str),
+    /// The journal belongs to another state of the model: something else has written one of the two.
+    NotTogether(PathBuf),
+}
+
+impl fmt::Display for SessionError {
+    fn fmt(&self, f: &mut fmt::Formatter<'_>) -> fmt::Result {
+        match self {
+            SessionError::File(path, error) => write!(f, "{}: {error}", path.display()),
+            SessionError::Model(path, refusal) => write!(f, "{}: {refusal}", path.display()),
+            SessionError::InUse(path) => {
+                write!(f, "{}: another run is editing this model", path.display())
+            }
+            SessionError::BadJournal(path, why) => write!(
+                f,
+                "{}: {why}; move it away to go on from the model without undo",
+                path.display()
+            ),
+            SessionError::NotTogether(path) => write!(
+                f,
+                "{}: this journal does not belong to its model, something else has written one of the two; \
+                 bring back the other, or move the journal away to go on from the model without undo",
+                path.display()
+            ),
+        }
+    }
+}
+
+impl std::error::Error for SessionError {}
+
+/// A model file under edit with its journal beside it (`MODEL.journal`), so that undo works across runs.
+///
+/// The journal file names its model by length and hash. [`save`](Session::save) writes both beside (`.pending`) and whole, then renames
+/// the journal, then the model. A run that is cut off before the first rename leaves the old pair; one cut off between the two leaves
+/// the new journal and the new model's `.pending` file, and the next [`load`](Session::load) finishes that rename. Any other pair that
+/// does not belong together is refused. The model file is locked while a session has it.
+///
+/// ```
+/// use mascon::{shapes, Model, Session};
+///
+/// # let folder = std::env::temp_dir().join(format!("mascon-session-{}", std::process::id()));
+/// # std::fs::create_dir_all(&folder)?;
+/// let path = folder.join("body.rym1");
+/// Model::open(&shapes::empty_file(8, [-4.0; 3], [4.0; 3]))?.save(&path)?;
+///
+/// let mut session = Session::load(&path)?;
+/// session.model.put(1, 2, 3, 5.0e6, 4.0e6)?;
+/// session.save()?;
+/// drop(session);
+///
+/// let mut session = Session::load(&path)?;
+/// session.model.undo()?;
+/// assert!(session.model.is_empty());
+/// # std::fs::remove_dir_all(&folder)?;
+/// # Ok::<(), Box<dyn std::error::Error>>(())
+/// ```
+#[derive(Debug)]
+pub struct Session {
+    /// The model, to be edited.
+    pub model: Model,
+    /// Whether a write that was cut off has been finished on loading.
+    pub finished_write: bool,
+    /// Whether the file was not in working form when it was loaded; saving writes the working form.
+    pub reordered: bool,
+    path: PathBuf,
+    lock: File,
+}
+
+/// FNV-1a, 64 bits.
+fn hash(bytes: &[u8]) -> u64 {
+    bytes.iter().fold(0xcbf2_9ce4_8422_2325, |hash, &byte| {
+        (hash ^ u64::from(byte)).wrapping_mul(0x100_0000_01b3)
+    })
+}
+
+/// Header words, the model's length and hash, the journal's words, and the hash of all that.
+fn journal_bytes(model: &Model) -> Vec<u8> {
+    let words = model.journal();
+    let mut bytes = Vec::with_capacity(JOURNAL_HEADER + 4 * words.len() + 8);
+    bytes.extend(JOURNAL_WORD.to_le_bytes());
+    bytes.extend(1_u32.to_le_bytes());
+    bytes.extend((model.as_bytes().len() as u64).to_le_bytes());
+    bytes.extend(hash(model.as_bytes()).to_le_bytes());
+    bytes.extend(words.iter().flat_map(|word| word.to_le_bytes()));
+    bytes.extend(hash(&bytes).to_le_bytes());
+    bytes
+}
+
+struct Journal {
+    length: u64,
+    hash: u64,
+    words: Vec<u32>,
+}
+
+impl Journal {
+    fn of(bytes: &[u8]) -> Result<Journal, &'static str> {
+        let long_at = |at: usize| u64::from_le_bytes(bytes[at..at + 8].try_into().expect("eight"));
+        let word_at = |at: usize| crate::points::word_at(bytes, at);
+        let length = bytes.len();
+        if length < JOURNAL_HEADER + 12 || word_at(0) != JOURNAL_WORD {
+            return Err("not a journal file");
+        }
+        if word_at(4) != 1 {
+            return Err("a journal file of another version");
+        }
+        if !length.is_multiple_of(4) || hash(&bytes[..length - 8]) != long_at(length - 8) {
+            return Err("the journal file is damaged or cut off");
+        }
+        let words = (JOURNAL_HEADER..length - 8).step_by(4).map(word_at);
+        Ok(Journal {
+            length: long_at(8),
+            hash: long_at(16),
+            words: words.collect(),
+        })
+    }
+
+    fn fits(&self, model: &[u8]) -> bool {
+        self.length == model.len() as u64 && self.hash == hash(model)
+    }
+}
+
+/// The journal file of a model file.
+pub fn journal_path(model: impl AsRef<Path>) -> PathBuf {
+    beside(&target(model.as_ref()), ".journal")
+}
+
+/// How many edits the journal beside a model file holds, none where there is no journal.
+///
+/// # Errors
+/// A journal that is damaged, or that belongs to another state of the model.
+pub fn journal_entries(
+    model: impl AsRef<Path>,
+    bytes: &[u8],
+) -> Result<Option<usize>, SessionError> {
+    let path = journal_path(model);
+    match read_journal(&path)? {
+        None => Ok(None),
+        Some(journal) if !journal.fits(bytes) => Err(SessionError::NotTogether(path)),
+        Some(journal) => match Model::resume(bytes, &journal.words) {
+            Ok(model) => Ok(Some(model.entries())),
+            Err(refusal) => Err(SessionError::Model(path, refusal)),
+        },
+    }
+}
+
+fn read_journal(path: &Path) -> Result<Option<Journal>, SessionError> {
+    match fs::read(path) {
+        Ok(bytes) => Journal::of(&bytes)
+            .map(Some)
+            .map_err(|why| SessionError::BadJournal(path.to_path_buf(), why)),
+        Err(error) if error.kind() == io::ErrorKind::NotFound => Ok(None),
+        Err(error) => Err(SessionError::File(path.to_path_buf(), error)),
+    }
+}
+
+#[cfg(unix)]
+fn same_file(file: &File, path: &Path) -> io::Result<bool> {
+    use std::os::unix::fs::MetadataExt;
+    let (a, b) = (file.metadata()?, fs::metadata(path)?);
+    Ok((a.dev(), a.ino()) == (b.dev(), b.ino()))
+}
+
+#[cfg(not(unix))]
+fn same_file(_: &File, _: &Path) -> io::Result<bool> {
+    Ok(true)
+}
+
+/// Opens and locks a file, the one that stands at `path` once the lock is held.
+fn open_locked(path: &Path) -> Result<File, SessionError> {
+    let failed = |error| SessionError::File(path.to_path_buf(), error);
+    loop {
+        let file = File::open(path).map_err(failed)?;
+        match file.try_lock() {
+            Ok(()) => {}
+            Err(TryLockError::WouldBlock) => return Err(SessionError::InUse(path.to_path_buf())),
+            Err(TryLockError::Error(error)) => return Err(failed(error)),
+        }
+        if same_file(&file, path).map_err(failed)? {
+            return Ok(file);
+        }
+    }
+}
+
+impl Session {
+    /// Takes up a model file and the journal beside it, or an empty journal where there is none.
+    ///
+    /// # Errors
+    /// See [`SessionError`].
+    pub fn load(path: impl AsRef<Path>) -> Result<Session, SessionError> {
+        let path = target(path.as_ref());
+        let journal_path = beside(&path, ".journal");
+        let failed = |error| SessionError::File(path.clone(), error);
+        let mut lock = open_locked(&path)?;
+        let mut bytes = Vec::new();
+        lock.read_to_end(&mut bytes).map_err(failed)?;
+        let mut finished_write = false;
+        let journal = read_journal(&journal_path)?;
+        if let Some(journal) = &journal {
+            if !journal.fits(&bytes) {
+                let pending = beside(&path, ".pending");
+                match fs::read(&pending) {
+                    Ok(new) if journal.fits(&new) => bytes = new,
+                    _ => return Err(SessionError::NotTogether(journal_path)),
+                }
+                fs::rename(&pending, &path).map_err(failed)?;
+                lock = open_locked(&path)?;
+                finished_write = true;
+            }
+        }
+        let model = match &journal {
+            None => Model::open(&bytes),
+            Some(journal) => Model::resume(&bytes, &journal.words),
+        };
+        let model = match model {
+            Ok(model) => model,
+            Err(refusal @ (Refusal::BadJournal | Refusal::BadLastEntry)) => {
+                return Err(SessionError::Model(journal_path, refusal));
+            }
+            Err(refusal) => return Err(SessionError::Model(path, refusal)),
+        };
+        let reordered = model.as_bytes() != bytes;
+        Ok(Session {
+            model,
+            finished_write,
+            reordered,
+            path,
+            lock,
+        })
+    }
+
+    /// Writes the model and its journal.
+    ///
+    /// # Errors
+    /// Those of the file system; both files are then as they were, or the next load finishes the write.
+    pub fn save(&mut self) -> Result<(), SessionError> {
+        let journal = beside(&self.path, ".journal");
+        let [new_model, new_journal] = [&self.path, &journal].map(|path| beside(path, ".pending"));
+        let write = |path: &Path, bytes: &[u8]| {
+            // Of a write that was cut off.
+            let _ = fs::remove_file(path);
+            let written = File::create(path)
+                .and_then(|mut file| write_whole(&mut file, bytes, &self.path).map(|()| file));
+            written.map_err(|error| SessionError::File(path.to_path_buf(), error))
+        };
+        let rename = |from: &Path, to: &Path| {
+            fs::rename(from, to).map_err(|error| SessionError::File(to.to_path_buf(), error))
+        };
+        let written = write(&new_model, self.model.as_bytes()).and_then(|file| {
+            // Locked before it stands under the model's name.
+            let _ = file.try_lock();
+            write(&new_journal, &journal_bytes(&self.model))?;
+            rename(&new_journal, &journal)?;
+            sync_folder(&journal);
+            Ok(file)
+        });
+        match written {
+            Ok(file) => {
+                rename(&new_model, &self.path)?;
+                sync_folder(&self.path);
+                self.lock = file;
+                self.reordered = false;
+                Ok(())
+            }
+            Err(error) => {
+                let _ = fs::remove_file(&new_model);
+                let _ = fs::remove_file(&new_journal);
+                Err(error)
+            }
+        }
+    }
+
+    /// The model file.
+    pub fn path(&self) -> &Path {
+        &self.path
+    }
+}

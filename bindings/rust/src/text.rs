@@ -1,0 +1,386 @@
+//! Meshes, kernels and edits as text, with the line of what is wrong.
+
+use crate::{Kernel, Model, Refusal, Triangle};
+use std::collections::HashMap;
+use std::fmt;
+
+/// What is wrong in a text, and in which line, from 1.
+#[derive(Clone, Debug, PartialEq, Eq)]
+pub struct LineError {
+    /// The line, from 1; 0 of the text as a whole.
+    pub line: usize,
+    /// What is wrong.
+    pub why: String,
+}
+
+impl fmt::Display for LineError {
+    fn fmt(&self, f: &mut fmt::Formatter<'_>) -> fmt::Result {
+        match self.line {
+            0 => write!(f, "{}", self.why),
+            line => write!(f, "line {line}: {}", self.why),
+        }
+    }
+}
+
+impl std::error::Error for LineError {}
+
+fn wrong<T>(line: usize, why: impl Into<String>) -> Result<T, LineError> {
+    let why = why.into();
+    Err(LineError { line, why })
+}
+
+/// A mesh read from text.
+#[derive(Clone, Debug)]
+pub struct Mesh {
+    /// Its triangles; a face with more corners is a fan of them.
+    pub triangles: Vec<Triangle>,
+    /// How many corners the text lists.
+    pub vertices: usize,
+    /// How many edges do not belong to exactly two triangles: 0 of a closed mesh. A ray may slip through an open one.
+    pub open_edges: usize,
+    /// Keywords that were passed over, each with its first line.
+    pub ignored: Vec<(String, usize)>,
+}
+
+const PASSED_OVER: [&str; 18] = [
+    "vn",
+    "vt",
+    "vp",
+    "g",
+    "o",
+    "s",
+    "l",
+    "p",
+    "usemtl",
+    "mtllib",
+    "mg",
+    "lod",
+    "bevel",
+    "c_interp",
+    "d_interp",
+    "shadow_obj",
+    "trace_obj",
+    "usemap",
+];
+
+fn number(line: usize, word: &str) -> Result<f64, LineError> {
+    match word.parse::<f64>() {
+        Ok(number) if number.is_finite() => Ok(number),
+        Ok(_) => wrong(line, format!("`{word}` is not a finite number")),
+        Err(_) => wrong(line, format!("`{word}` is not a number")),
+    }
+}
+
+/// Reads a mesh in Wavefront OBJ: `v` and `f` lines, `f` with 1/2/3 corners' forms and negative indices; `scale` multiplies every
+/// coordinate (1000 for a mesh in kilometres).
+///
+/// ```
+/// use mascon::text::parse_obj;
+///
+/// let mesh = parse_obj("v 0 0 0\nv 1 0 0\nv 0 1 0\nv 0 0 1\nf 1 3 2\nf 1 2 4\nf 1/1 4/2 3/3\nf -3 -2 -1\n", 1.0)?;
+/// assert_eq!((mesh.triangles.len(), mesh.open_edges), (4, 0));
+/// assert_eq!(parse_obj("v 0 0 nan", 1.0).unwrap_err().to_string(), "line 1: `nan` is not a finite number");
+/// # Ok::<(), mascon::text::LineError>(())
+/// ```
+///
+/// # Errors
+/// The first line that is wrong.
+pub fn parse_obj(text: &str, scale: f64) -> Result<Mesh, LineError> {
+    let mut vertices: Vec<[f64; 3]> = Vec::new();
+    let mut ids: HashMap<[u64; 3], usize> = HashMap::new();
+    let mut id_of: Vec<usize> = Vec::new();
+    let mut edges: HashMap<(usize, usize), usize> = HashMap::new();
+    let mut triangles = Vec::new();
+    let mut ignored: Vec<(String, usize)> = Vec::new();
+    let mut lines = text.lines().enumerate();
+    while let Some((at, first)) = lines.next() {
+        let line = at + 1;
+        let mut whole = first
+            .split('#')
+            .next()
+            .unwrap_or_default()
+            .trim_end()
+            .to_string();
+        while whole.ends_with('\\') {
+            whole.pop();
+            let Some((_, next)) = lines.next() else { break };
+            whole.push(' ');
+            whole.push_str(next.split('#').next().unwrap_or_default().trim_end());
+        }
+        let mut words = whole.split_whitespace();
+        let Some(keyword) = words.next() else {
+            continue;
+        };
+        let words: Vec<&str> = words.collect();
+        match keyword {
+            "v" => {
+                if words.len() < 3 {
+                    return wrong(
+                        line,
+                        format!("a corner has x, y and z, here are {} numbers", words.len()),
+                    );
+                }
+                let mut corner = [0.0; 3];
+                for (axis, word) in words[..3].iter().enumerate() {
+                    corner[axis] = number(line, word)? * scale;
+                    if corner[axis].abs() > 1e6 {
+                        return wrong(
+                            line,
+                            format!(
+                                "`{word}`: coordinates go up to 1e6 m, this is {} m",
+                                corner[axis]
+                            ),
+                        );
+                    }
+                }
+                // 0 and -0 are one place.
+                let next = ids.len();
+                id_of.push(
+                    *ids.entry(corner.map(|x| (x + 0.0).to_bits()))
+                        .or_insert(next),
+                );
+                vertices.push(corner);
+            }
+            "f" => {
+                if words.len() < 3 {
+                    return wrong(
+                        line,
+                        format!("a face has three corners or more, here are {}", words.len()),
+                    );
+                }
+                let mut corners = Vec::with_capacity(words.len());
+                for word in words {
+                    corners.push(index(line, word, vertices.len())?);
+                }
+                for i in 1..corners.len() - 1 {
+                    let three = [corners[0], corners[i], corners[i + 1]];
+                    let [a, b, c] = three.map(|i| vertices[i]);
+                    triangles.push(Triangle { a, b, c });
+                    let three = three.map(|i| id_of[i]);
+                    for (i, j) in [(0, 1), (1, 2), (2, 0)] {
+                        let (i, j) = (three[i], three[j]);
+                        *edges.entry((i.min(j), i.max(j))).or_default() += 1;
+                    }
+                }
+                if triangles.len() > 1 << 20 {
+                    return wrong(line, "more than 2^20 triangles");
+                }
+            }
+            other => {
+                if !PASSED_OVER.contains(&other) && !ignored.iter().any(|(word, _)| word == other) {
+                    ignored.push((other.to_string(), line));
+                }
+            }
+        }
+    }
+    if triangles.is_empty() {
+        return wrong(0, "no face (`f` line) in it");
+    }
+    let open_edges = edges
+        .iter()
+        .filter(|&(&(a, b), &count)| a != b && count != 2)
+        .count();
+    Ok(Mesh {
+        triangles,
+        vertices: vertices.len(),
+        open_edges,
+        ignored,
+    })
+}
+
+/// A corner's place, from 0, by the first part of a word such as `3`, `3/1`, `3//2` or `-1`.
+fn index(line: usize, word: &str, vertices: usize) -> Result<usize, LineError> {
+    let first = word.split('/').next().unwrap_or_default();
+    let Ok(index) = first.parse::<i64>() else {
+        return wrong(line, format!("`{word}` is not a corner's index"));
+    };
+    let place = if index < 0 {
+        vertices as i64 + index
+    } else {
+        index - 1
+    };
+    if index == 0 || !(0..vertices as i64).contains(&place) {
+        return wrong(
+            line,
+            format!("corner {index} is not among the {vertices} listed so far"),
+        );
+    }
+    Ok(place as usize)
+}
+
+/// A mesh as OBJ text.
+pub fn write_obj(triangles: &[Triangle]) -> String {
+    use fmt::Write as _;
+    let mut places: HashMap<[u64; 3], usize> = HashMap::new();
+    let (mut corners, mut faces) = (String::new(), String::new());
+    for triangle in triangles {
+        let mut face = String::from("f");
+        for corner in [triangle.a, triangle.b, triangle.c] {
+            let next = places.len() + 1;
+            let place = *places.entry(corner.map(f64::to_bits)).or_insert_with(|| {
+                let _ = writeln!(corners, "v {} {} {}", corner[0], corner[1], corner[2]);
+                next
+            });
+            let _ = write!(face, " {place}");
+        }
+        faces.push_str(&face);
+        faces.push('\n');
+    }
+    corners + &faces
+}
+
+/// Reads a list of kernels: `x y z sigma w` a line, metres and 1/metre; `#` begins a comment.
+///
+/// ```
+/// let kernels = mascon::text::parse_kernels("# body\n-300 0 0  0.002 2100\n")?;
+/// assert_eq!(kernels[0].w, 2100.0);
+/// # Ok::<(), mascon::text::LineError>(())
+/// ```
+///
+/// # Errors
+/// The first line that is wrong.
+pub fn parse_kernels(text: &str) -> Result<Vec<Kernel>, LineError> {
+    let mut kernels = Vec::new();
+    for (at, line) in text.lines().enumerate() {
+        let words: Vec<&str> = line
+            .split('#')
+            .next()
+            .unwrap_or_default()
+            .split_whitespace()
+            .collect();
+        let line = at + 1;
+        if words.is_empty() {
+            continue;
+        }
+        if words.len() != 5 {
+            return wrong(
+                line,
+                format!(
+                    "a kernel is `x y z sigma w`, here are {} words",
+                    words.len()
+                ),
+            );
+        }
+        let mut numbers = [0.0; 5];
+        for (place, word) in numbers.iter_mut().zip(&words) {
+            *place = number(line, word)?;
+        }
+        let [x, y, z, sigma, w] = numbers;
+        if [x, y, z].iter().any(|x| x.abs() > 1e6) {
+            return wrong(line, "a centre's coordinates go up to 1e6 m");
+        }
+        if !(0.0..=1e6).contains(&sigma) {
+            return wrong(line, format!("sigma is {sigma}, it goes from 0 to 1e6"));
+        }
+        if w.abs() > 1e30 {
+            return wrong(line, format!("w is {w}, it goes up to 1e30"));
+        }
+        kernels.push(Kernel {
+            c: [x, y, z],
+            sigma,
+            w,
+        });
+        if kernels.len() > 4096 {
+            return wrong(line, "more than 4,096 kernels");
+        }
+    }
+    Ok(kernels)
+}
+
+/// An edit to be made.
+#[derive(Clone, Copy, Debug, PartialEq)]
+pub enum Edit {
+    /// Puts masses into a cell: x, y, z, Cauchy mass, elliptic mass.
+    Put(u32, u32, u32, f32, f32),
+    /// Removes a cell's point: x, y, z.
+    Remove(u32, u32, u32),
+    /// Undoes the last edit.
+    Undo,
+}
+
+impl Edit {
+    /// Makes the edit.
+    ///
+    /// # Errors
+    /// Those of [`Model::put`], [`Model::remove`] and [`Model::undo`].
+    pub fn apply(self, model: &mut Model) -> Result<(), Refusal> {
+        match self {
+            Edit::Put(x, y, z, cauchy, elliptic) => model.put(x, y, z, cauchy, elliptic),
+            Edit::Remove(x, y, z) => model.remove(x, y, z),
+            Edit::Undo => model.undo(),
+        }
+    }
+
+    /// Reads `put x y z cauchy elliptic`, `remove x y z` or `undo`.
+    ///
+    /// ```
+    /// use mascon::text::Edit;
+    ///
+    /// assert_eq!(Edit::parse(&["remove", "1", "2", "3"]), Ok(Edit::Remove(1, 2, 3)));
+    /// assert!(Edit::parse(&["put", "1", "2", "3"]).is_err());
+    /// ```
+    ///
+    /// # Errors
+    /// What is wrong, in words. Numbers that the library judges, a mass that is not finite or a cell outside, are read.
+    pub fn parse(words: &[&str]) -> Result<Edit, String> {
+        let cell = |word: &str| {
+            let wrong = |_| format!("`{word}` is not a cell index, a whole number from 0");
+            word.parse::<u32>().map_err(wrong)
+        };
+        let mass = |word: &str| {
+            word.parse::<f32>()
+                .map_err(|_| format!("`{word}` is not a mass"))
+        };
+        match words {
+            ["put", x, y, z, cauchy, elliptic] => Ok(Edit::Put(
+                cell(x)?,
+                cell(y)?,
+                cell(z)?,
+                mass(cauchy)?,
+                mass(elliptic)?,
+            )),
+            ["remove", x, y, z] => Ok(Edit::Remove(cell(x)?, cell(y)?, cell(z)?)),
+            ["undo"] => Ok(Edit::Undo),
+            ["put", ..] => Err("put takes `x y z cauchy elliptic`".into()),
+            ["remove", ..] => Err("remove takes `x y z`".into()),
+            ["undo", ..] => Err("undo stands alone".into()),
+            [other, ..] => Err(format!("`{other}` is not put, remove or undo")),
+            [] => Err("no edit".into()),
+        }
+    }
+}
+
+impl fmt::Display for Edit {
+    fn fmt(&self, f: &mut fmt::Formatter<'_>) -> fmt::Result {
+        match self {
+            Edit::Put(x, y, z, cauchy, elliptic) => {
+                write!(f, "put {x} {y} {z} {cauchy} {elliptic}")
+            }
+            Edit::Remove(x, y, z) => write!(f, "remove {x} {y} {z}"),
+            Edit::Undo => write!(f, "undo"),
+        }
+    }
+}
+
+/// Reads a list of edits, one a line, each with its line; `#` begins a comment.
+///
+/// # Errors
+/// The first line that is wrong.
+pub fn parse_edits(text: &str) -> Result<Vec<(usize, Edit)>, LineError> {
+    let mut edits = Vec::new();
+    for (at, line) in text.lines().enumerate() {
+        let words: Vec<&str> = line
+            .split('#')
+            .next()
+            .unwrap_or_default()
+            .split_whitespace()
+            .collect();
+        if !words.is_empty() {
+            match Edit::parse(&words) {
+                Ok(edit) => edits.push((at + 1, edit)),
+                Err(why) => return wrong(at + 1, why),
+            }
+        }
+    }
+    Ok(edits)
+}

@@ -1,0 +1,245 @@
+use crate::check::{check_tree, Fault};
+use crate::points::{float_at, floats_at, grid_of, scratch, word_at, HEADER};
+use crate::{cells, ffi, Refusal};
+use std::io;
+use std::path::Path;
+
+/// The length of a node.
+pub(crate) const NODE: usize = 80;
+/// Word 0 of a tree file: RTM1.
+pub(crate) const TREE_WORD: u32 = 0x314d_5452;
+
+/// A node of a tree, in metres and kilograms.
+#[derive(Clone, Copy, Debug, PartialEq)]
+pub struct Node {
+    /// The box's middle.
+    pub center: [f32; 3],
+    /// Half of the box's longest edge.
+    pub half: f32,
+    /// The sum of the Cauchy masses.
+    pub cauchy_mass: f32,
+    /// The sum of the elliptic masses.
+    pub elliptic_mass: f32,
+    /// The place of the left child, none in a leaf and where that child has no points.
+    pub left: Option<u32>,
+    /// The place of the right child, likewise.
+    pub right: Option<u32>,
+    /// The centre of the Cauchy masses.
+    pub cauchy_center: [f32; 3],
+    /// The centre of the elliptic masses.
+    pub elliptic_center: [f32; 3],
+    /// The centre of the points at one mass each.
+    pub constant_center: [f32; 3],
+    /// In a leaf, where its points begin in the order.
+    pub leaf_start: u32,
+    /// In a leaf, how many points it has; else 0.
+    pub leaf_count: u32,
+    /// How many points its box has.
+    pub count: u32,
+}
+
+impl Node {
+    pub(crate) fn at(bytes: &[u8], place: usize) -> Node {
+        let at = HEADER + NODE * place;
+        let link = |link: f32| (link >= 0.0).then_some(link as u32);
+        Node {
+            center: floats_at(bytes, at),
+            half: float_at(bytes, at + 12),
+            cauchy_mass: float_at(bytes, at + 16),
+            elliptic_mass: float_at(bytes, at + 20),
+            left: link(float_at(bytes, at + 24)),
+            right: link(float_at(bytes, at + 28)),
+            cauchy_center: floats_at(bytes, at + 32),
+            leaf_start: float_at(bytes, at + 44) as u32,
+            elliptic_center: floats_at(bytes, at + 48),
+            leaf_count: float_at(bytes, at + 60) as u32,
+            constant_center: floats_at(bytes, at + 64),
+            count: float_at(bytes, at + 76) as u32,
+        }
+    }
+
+    /// Whether it is a leaf with points.
+    pub fn is_leaf(&self) -> bool {
+        self.leaf_count > 0
+    }
+}
+
+/// A tree (RTM1, version 2) that a gravity solver walks.
+///
+/// ```
+/// use mascon::{shapes, Model};
+///
+/// let (mesh, kernels) = shapes::contact_binary(6);
+/// let tree = Model::fill(&mesh, &kernels, &kernels, 4.0e11, 1900.0, 12)?.tree();
+/// // Walk it: every point stands in one leaf.
+/// let mut open = vec![tree.root()];
+/// let mut points = 0;
+/// while let Some(node) = open.pop() {
+///     points += tree.leaf_points(&node).count();
+///     open.extend([node.left, node.right].into_iter().flatten().map(|child| tree.node(child as usize)));
+/// }
+/// assert_eq!(points, tree.order_count());
+/// # Ok::<(), mascon::Refusal>(())
+/// ```
+#[derive(Clone, Debug, PartialEq, Eq)]
+pub struct Tree {
+    bytes: Vec<u8>,
+    nodes: usize,
+    order: usize,
+}
+
+impl Tree {
+    /// Builds the tree of a point file, in working form or not. The order names points by their place in that file.
+    ///
+    /// # Errors
+    /// 1 to 7.
+    pub fn build(file: &[u8]) -> Result<Tree, Refusal> {
+        let grid = grid_of(file);
+        let most_order = grid.map_or(0, cells);
+        let most_nodes = (2 * most_order).saturating_sub(1);
+        let count = if grid.is_some() {
+            word_at(file, 12) as usize
+        } else {
+            0
+        };
+        // Most trees have fewer nodes than half their points; where that is short, twice as many, up to what always is enough.
+        let mut nodes = (count / 2 + 256).min(most_nodes);
+        let mut scratch = scratch(file);
+        loop {
+            let mut out = vec![0; HEADER + NODE * nodes + 4 * count.min(most_order)];
+            match ffi::build(file, &mut scratch, &mut out) {
+                Ok((length, nodes, order)) => {
+                    out.truncate(length);
+                    out.shrink_to_fit();
+                    let bytes = out;
+                    return Ok(Tree {
+                        bytes,
+                        nodes,
+                        order,
+                    });
+                }
+                Err(Refusal::OutputTooShort) if nodes < most_nodes => {
+                    nodes = (2 * nodes).min(most_nodes);
+                }
+                Err(refusal) => return Err(refusal),
+            }
+        }
+    }
+
+    /// Takes up a tree file, after judging header, boxes, links, counts, leaf ranges and order.
+    ///
+    /// # Errors
+    /// The first fault, with its place.
+    pub fn open(bytes: Vec<u8>) -> Result<Tree, Fault> {
+        if let Some(fault) = check_tree(&bytes, 1).faults.into_iter().next() {
+            return Err(fault);
+        }
+        let nodes = word_at(&bytes, 56) as usize;
+        let order = (bytes.len() - HEADER - NODE * nodes) / 4;
+        Ok(Tree {
+            bytes,
+            nodes,
+            order,
+        })
+    }
+
+    /// How many nodes it has.
+    pub fn node_count(&self) -> usize {
+        self.nodes
+    }
+
+    /// How many order words it has: one for each occupied cell.
+    pub fn order_count(&self) -> usize {
+        self.order
+    }
+
+    /// A node by its place in preorder.
+    ///
+    /// # Panics
+    /// Where `place` is not below [`node_count`](Tree::node_count).
+    pub fn node(&self, place: usize) -> Node {
+        assert!(place < self.nodes, "node {place} of {}", self.nodes);
+        Node::at(&self.bytes, place)
+    }
+
+    /// The root.
+    pub fn root(&self) -> Node {
+        self.node(0)
+    }
+
+    /// The nodes in preorder.
+    pub fn nodes(&self) -> impl DoubleEndedIterator<Item = Node> + ExactSizeIterator + '_ {
+        (0..self.nodes).map(|place| Node::at(&self.bytes, place))
+    }
+
+    /// The order: the places in the point file of the leaves' points, leaf by leaf.
+    pub fn order(&self) -> impl DoubleEndedIterator<Item = u32> + ExactSizeIterator + '_ {
+        self.order_words(0, self.order)
+    }
+
+    /// The places in the point file of a leaf's points; a node that is no leaf has none.
+    ///
+    /// # Panics
+    /// May panic, when the iterator is used, of a node from another tree.
+    pub fn leaf_points(
+        &self,
+        node: &Node,
+    ) -> impl DoubleEndedIterator<Item = u32> + ExactSizeIterator + '_ {
+        self.order_words(node.leaf_start as usize, node.leaf_count as usize)
+    }
+
+    fn order_words(
+        &self,
+        start: usize,
+        count: usize,
+    ) -> impl DoubleEndedIterator<Item = u32> + ExactSizeIterator + '_ {
+        let first = HEADER + NODE * self.nodes;
+        (start..start + count).map(move |i| word_at(&self.bytes, first + 4 * i))
+    }
+
+    /// How many links lie between the root and its farthest node.
+    pub fn depth(&self) -> usize {
+        let mut deepest = 0;
+        let mut open = vec![(0, 0)];
+        while let Some((place, depth)) = open.pop() {
+            deepest = deepest.max(depth);
+            let node = self.node(place);
+            let children = [node.left, node.right].into_iter().flatten();
+            open.extend(children.map(|child| (child as usize, depth + 1)));
+        }
+        deepest
+    }
+
+    /// Cells on each axis.
+    pub fn grid(&self) -> u32 {
+        word_at(&self.bytes, 8)
+    }
+
+    /// The box's least and greatest corner in metres.
+    pub fn bounds(&self) -> ([f32; 3], [f32; 3]) {
+        (floats_at(&self.bytes, 32), floats_at(&self.bytes, 44))
+    }
+
+    /// The Cauchy scale, the constant density and the cell volume of the point file.
+    pub fn scale_density_volume(&self) -> [f32; 3] {
+        floats_at(&self.bytes, 16)
+    }
+
+    /// The file (RTM1).
+    pub fn as_bytes(&self) -> &[u8] {
+        &self.bytes
+    }
+
+    /// The file (RTM1), given away.
+    pub fn into_bytes(self) -> Vec<u8> {
+        self.bytes
+    }
+
+    /// Writes the file beside `path` and renames it, so that a failure leaves `path` as it was.
+    ///
+    /// # Errors
+    /// Those of the file system.
+    pub fn save(&self, path: impl AsRef<Path>) -> io::Result<()> {
+        crate::write_file(path, &self.bytes)
+    }
+}

@@ -1,0 +1,80 @@
+//! What the tests share.
+#![allow(dead_code)]
+
+use std::path::{Path, PathBuf};
+
+/// Numbers that are the same on every run (SplitMix64).
+pub struct Rng(pub u64);
+
+impl Rng {
+    pub fn bits(&mut self) -> u64 {
+        self.0 = self.0.wrapping_add(0x9e37_79b9_7f4a_7c15);
+        let mut z = self.0;
+        z = (z ^ (z >> 30)).wrapping_mul(0xbf58_476d_1ce4_e5b9);
+        z = (z ^ (z >> 27)).wrapping_mul(0x94d0_49bb_1331_11eb);
+        z ^ (z >> 31)
+    }
+
+    /// A number below `end`.
+    pub fn below(&mut self, end: u64) -> u64 {
+        self.bits() % end
+    }
+
+    /// A mass, some of them 0 or negative.
+    pub fn mass(&mut self) -> f32 {
+        (self.below(2001) as f32 - 500.0) * 1.25e6
+    }
+}
+
+/// A folder of a test's own, removed at its end.
+pub struct Folder(PathBuf);
+
+impl Folder {
+    pub fn new(name: &str) -> Folder {
+        let path = Path::new(env!("CARGO_TARGET_TMPDIR")).join(name);
+        let _ = std::fs::remove_dir_all(&path);
+        std::fs::create_dir_all(&path).unwrap();
+        Folder(path)
+    }
+
+    pub fn file(&self, name: &str) -> PathBuf {
+        self.0.join(name)
+    }
+
+    /// The names in it, sorted.
+    pub fn names(&self) -> Vec<String> {
+        let entries = std::fs::read_dir(&self.0).unwrap();
+        let mut names: Vec<_> = entries
+            .map(|entry| entry.unwrap().file_name().into_string().unwrap())
+            .collect();
+        names.sort();
+        names
+    }
+}
+
+impl Drop for Folder {
+    fn drop(&mut self) {
+        let _ = std::fs::remove_dir_all(&self.0);
+    }
+}
+
+/// A record of a point file.
+pub fn record(x: u16, y: u16, z: u16, pad: u16, cauchy: f32, elliptic: f32) -> Vec<u8> {
+    let mut bytes: Vec<u8> = [x, y, z, pad]
+        .into_iter()
+        .flat_map(u16::to_le_bytes)
+        .collect();
+    bytes.extend(cauchy.to_le_bytes());
+    bytes.extend(elliptic.to_le_bytes());
+    bytes
+}
+
+/// A point file with these records.
+pub fn file(grid: u32, records: &[(u16, u16, u16, f32, f32)]) -> Vec<u8> {
+    let mut file = mascon::shapes::empty_file(grid, [-8.0, -6.0, -4.0], [8.0, 6.0, 4.0]);
+    file[12..16].copy_from_slice(&(records.len() as u32).to_le_bytes());
+    for &(x, y, z, cauchy, elliptic) in records {
+        file.extend(record(x, y, z, 0, cauchy, elliptic));
+    }
+    file
+}

@@ -1,0 +1,555 @@
+//! The library as planners call it.
+
+mod common;
+
+use common::{file, record, Folder, Rng};
+use mascon::check::{check_points, check_tree, check_working_form, Place};
+use mascon::{
+    build_mascon, build_mascon_tree, is_inside, parse_mascon_bytes, shapes, Change, Kernel, Model,
+    Refusal, Tree, Triangle,
+};
+use std::collections::BTreeMap;
+
+#[test]
+fn contact_binary_from_mesh_to_tree() {
+    let (mesh, kernels) = shapes::contact_binary(10);
+    let model = Model::fill(&mesh, &kernels, &kernels[..1], 4.2e11, 1900.0, 24).unwrap();
+    let (cauchy, elliptic) = model.masses();
+    assert!((cauchy / 4.2e11 - 1.0).abs() < 1e-5, "{cauchy}");
+    assert!((elliptic / 4.2e11 - 1.0).abs() < 1e-5, "{elliptic}");
+    assert_eq!(model.grid(), 24);
+    assert_eq!(model.constant_density(), 1900.0);
+    assert!(model.len() > 500 && model.len() < 24 * 24 * 24 / 2);
+    let header = model.header();
+    for point in model.points() {
+        let middle = header.middle(point.x, point.y, point.z);
+        assert_eq!(header.cell_at(middle), Some([point.x, point.y, point.z]));
+        assert_eq!(is_inside(&mesh, middle), Ok(true), "{point:?}");
+        assert_eq!(model.get(point.x, point.y, point.z), Some(point));
+    }
+    let tree = model.tree();
+    assert_eq!(tree.order_count(), model.len());
+    assert!(check_tree(tree.as_bytes(), 10).is_clean());
+    let mut order: Vec<u32> = tree.order().collect();
+    order.sort_unstable();
+    assert!(order.into_iter().eq(0..model.len() as u32));
+    assert_eq!(tree.root().count as usize, model.len());
+    assert!((f64::from(tree.root().cauchy_mass) / cauchy - 1.0).abs() < 1e-6);
+    assert!(tree.depth() > 6 && tree.depth() < 24);
+    let leaves: u32 = tree.nodes().map(|node| node.leaf_count).sum();
+    assert_eq!(leaves as usize, model.len());
+    assert_eq!(Tree::open(tree.as_bytes().to_vec()).unwrap(), tree);
+}
+
+/// Shells may touch but not overlap, and winding plays no part.
+#[test]
+fn inside_two_shells_is_outside() {
+    let mut mesh = shapes::lumpy_sphere([0.0; 3], 100.0, 0.0, 8);
+    mesh.extend(shapes::lumpy_sphere([120.0, 0.0, 0.0], 100.0, 0.0, 8));
+    assert_eq!(is_inside(&mesh, [-50.0, 3.0, 7.0]), Ok(true));
+    assert_eq!(is_inside(&mesh, [170.0, 3.0, 7.0]), Ok(true));
+    assert_eq!(is_inside(&mesh, [60.0, 3.0, 7.0]), Ok(false));
+    for triangle in mesh.iter_mut().step_by(2) {
+        std::mem::swap(&mut triangle.a, &mut triangle.b);
+    }
+    assert_eq!(is_inside(&mesh, [-50.0, 3.0, 7.0]), Ok(true));
+}
+
+#[test]
+fn as_the_original_is_called() {
+    let (mesh, kernels) = shapes::contact_binary(6);
+    let points = build_mascon(&mesh, &kernels, &kernels, 1.0e11, 1190.0, 16).unwrap();
+    let source = parse_mascon_bytes(&points, "runtime Mascon source").unwrap();
+    let (tree, nodes, ordered) = build_mascon_tree(&source);
+    let model = source.open();
+    assert_eq!(model.as_bytes(), points);
+    assert_eq!(model.tree().as_bytes(), tree);
+    assert_eq!(tree.len(), 64 + 80 * nodes + 4 * ordered);
+    assert_eq!(source.count(), ordered);
+    assert!(source.points().eq(model.points()));
+}
+
+#[test]
+fn a_source_keeps_its_order() {
+    let bytes = file(
+        2,
+        &[
+            (1, 0, 0, 1.0, 1.0),
+            (0, 0, 0, 2.0, 2.0),
+            (1, 0, 0, 4.0, 4.0),
+        ],
+    );
+    let source = parse_mascon_bytes(&bytes, "file").unwrap();
+    let (tree, nodes, ordered) = build_mascon_tree(&source);
+    assert_eq!((nodes, ordered), (1, 2));
+    let tree = Tree::open(tree).unwrap();
+    assert!(tree.order().eq([1, 2]));
+    let model = source.open();
+    assert_eq!(model.len(), 2);
+    assert_eq!(model.get(1, 0, 0).unwrap().cauchy_mass, 4.0);
+    assert!(model.tree().order().eq([0, 1]));
+    assert_eq!(
+        check_working_form(&bytes, 9).faults[0].place,
+        Place::Record(1)
+    );
+}
+
+#[test]
+fn refusals_of_files() {
+    let good = file(4, &[(0, 1, 2, 1.0, 2.0), (3, 1, 2, 1.0, 2.0)]);
+    assert!(Model::open(&good).is_ok());
+    let with = |at: usize, bytes: &[u8]| {
+        let mut file = good.clone();
+        file[at..at + bytes.len()].copy_from_slice(bytes);
+        file
+    };
+    let nan = &f32::NAN.to_le_bytes()[..];
+    let cases = [
+        (good[..63].to_vec(), 1),
+        (with(0, b"X"), 2),
+        (with(4, &[2]), 2),
+        (with(8, &[0]), 3),
+        (with(8, &[1, 1]), 3),
+        (with(12, &[3]), 4),
+        (good[..95].to_vec(), 4),
+        (with(24, nan), 5),
+        (with(44, &(-9.0_f32).to_le_bytes()), 5),
+        (with(80, &[4]), 6),
+        (with(92, &f32::INFINITY.to_le_bytes()), 7),
+    ];
+    for (file, number) in cases {
+        let refusal = Refusal::from_number(number).unwrap();
+        assert_eq!(Model::open(&file).unwrap_err(), refusal);
+        assert_eq!(Tree::build(&file).unwrap_err(), refusal);
+        assert_eq!(parse_mascon_bytes(&file, "a").unwrap_err().refusal, refusal);
+        assert_eq!(check_points(&file, 1).faults[0].cause, Some(refusal));
+    }
+    let report = check_points(&with(80, &[4]), 9);
+    assert_eq!(
+        report.faults[0].to_string(),
+        "cause 6: record 1, x, byte 80: 4 is not below the grid, 4"
+    );
+}
+
+#[test]
+fn refusals_of_edits() {
+    let mut model = Model::open(&file(4, &[(0, 1, 2, 1.0, 2.0)])).unwrap();
+    let before = model.as_bytes().to_vec();
+    assert_eq!(
+        model.put(4, 0, 0, 1.0, 1.0),
+        Err(Refusal::CoordinateOutOfGrid)
+    );
+    assert_eq!(
+        model.put(u32::MAX, 0, 0, 1.0, 1.0),
+        Err(Refusal::CoordinateOutOfGrid)
+    );
+    assert_eq!(
+        model.put(0, 0, 0, f32::NAN, 1.0),
+        Err(Refusal::MassNotFinite)
+    );
+    assert_eq!(
+        model.put(0, 0, 0, 1.0, f32::INFINITY),
+        Err(Refusal::MassNotFinite)
+    );
+    assert_eq!(model.remove(0, 4, 0), Err(Refusal::CoordinateOutOfGrid));
+    assert_eq!(model.remove(0, 0, 0), Err(Refusal::EmptyCell));
+    assert_eq!(model.undo(), Err(Refusal::NothingToUndo));
+    assert_eq!(model.get(4, 0, 0), None);
+    assert_eq!(model.get(u32::MAX, u32::MAX, u32::MAX), None);
+    assert_eq!((model.as_bytes(), model.entries()), (&before[..], 0));
+}
+
+#[test]
+fn refusals_of_fill() {
+    let (mesh, kernels) = shapes::contact_binary(4);
+    let fill = |mesh: &[Triangle], kernels: &[Kernel], target: f64, grid: u32| {
+        build_mascon(mesh, kernels, kernels, target, 1.0, grid).map(|_| ())
+    };
+    assert_eq!(fill(&mesh, &kernels, 0.0, 8), Ok(()));
+    assert_eq!(fill(&mesh, &kernels, 0.0, 0), Err(Refusal::GridOutOfRange));
+    assert_eq!(
+        fill(&mesh, &kernels, 0.0, 257),
+        Err(Refusal::GridOutOfRange)
+    );
+    assert_eq!(
+        fill(&mesh, &kernels, 0.0, u32::MAX),
+        Err(Refusal::GridOutOfRange)
+    );
+    assert_eq!(fill(&[], &kernels, 0.0, 8), Err(Refusal::OutOfBounds));
+    assert_eq!(
+        fill(&mesh, &vec![kernels[0]; 4097], 0.0, 8),
+        Err(Refusal::OutOfBounds)
+    );
+    assert_eq!(
+        fill(&mesh, &kernels, f64::NAN, 8),
+        Err(Refusal::OutOfBounds)
+    );
+    assert_eq!(
+        is_inside(&mesh, [4.1e6, 0.0, 0.0]),
+        Err(Refusal::OutOfBounds)
+    );
+    assert_eq!(is_inside(&[], [0.0; 3]), Err(Refusal::OutOfBounds));
+    let flat = [Triangle {
+        a: [1e6; 3],
+        b: [1e6; 3],
+        c: [1e6; 3],
+    }];
+    assert_eq!(fill(&flat, &kernels, 0.0, 8), Err(Refusal::FlatBox));
+    let heavy = [Kernel {
+        c: [0.0; 3],
+        sigma: 0.0,
+        w: 1e30,
+    }];
+    let kilometres = shapes::lumpy_sphere([0.0; 3], 9e5, 0.0, 4);
+    assert_eq!(fill(&kilometres, &heavy, 0.0, 4), Err(Refusal::NotFinite));
+    let corner = |bits: usize| [0, 1, 2].map(|axis| (bits >> axis & 1) as f64 * 10.0);
+    let sides = [
+        [0, 4, 6, 2],
+        [1, 3, 7, 5],
+        [0, 1, 5, 4],
+        [2, 6, 7, 3],
+        [0, 2, 3, 1],
+        [4, 5, 7, 6],
+    ];
+    let mut cube: Vec<Triangle> = Vec::new();
+    for [a, b, c, d] in sides {
+        cube.extend([[a, b, c], [a, c, d]].map(|t: [usize; 3]| Triangle {
+            a: corner(t[0]),
+            b: corner(t[1]),
+            c: corner(t[2]),
+        }));
+    }
+    assert_eq!(fill(&cube, &kernels, 0.0, 8), Err(Refusal::TooManyPoints));
+    // The advice of 18: a triangle that is one point widens the box.
+    cube.push(Triangle {
+        a: [30.0; 3],
+        b: [30.0; 3],
+        c: [30.0; 3],
+    });
+    assert_eq!(fill(&cube, &kernels, 0.0, 8), Ok(()));
+}
+
+#[test]
+fn every_cause_has_number_and_words() {
+    assert_eq!(Refusal::ALL.len(), 20);
+    for (i, &refusal) in Refusal::ALL.iter().enumerate() {
+        assert_eq!(usize::from(refusal.number()), i + 1);
+        assert_eq!(Refusal::from_number(refusal.number()), Some(refusal));
+        assert_eq!(
+            refusal.to_string(),
+            format!("refused {}: {}", i + 1, refusal.words())
+        );
+        assert!(!refusal.advice().is_empty());
+        assert_eq!(String::from(refusal), refusal.to_string());
+    }
+    assert_eq!(Refusal::from_number(21), None);
+}
+
+#[test]
+fn buffers_grow() {
+    let empty = shapes::empty_file(16, [0.0; 3], [1.0; 3]);
+    let mut model = Model::open(&empty).unwrap();
+    // Every cell, so that both buffers grow many times; last cells first, so that records move.
+    let cells: Vec<_> = (0..16 * 16 * 16u32)
+        .rev()
+        .map(|i| (i % 16, i / 16 % 16, i / 256))
+        .collect();
+    for &(x, y, z) in &cells {
+        model.put(x, y, z, x as f32, y as f32).unwrap();
+    }
+    assert_eq!((model.len(), model.entries()), (4096, 4096));
+    assert_eq!(model.tree().node_count(), 1023);
+    for _ in &cells {
+        model.undo().unwrap();
+    }
+    assert_eq!(model.as_bytes(), empty);
+    assert_eq!(model.undo(), Err(Refusal::NothingToUndo));
+    // Nine points in two far corners: more nodes than half the points, so that the tree's buffer grows too.
+    let mut model = Model::open(&shapes::empty_file(256, [0.0; 3], [1.0; 3])).unwrap();
+    let mut points = 0;
+    for corner in 0..64u32 {
+        for i in 0..9 {
+            let at = |axis: u32| (corner >> (2 * axis) & 3) * 64 + (i >> axis & 1) + 2 * (i / 8);
+            model.put(at(0), at(1), at(2), 1.0, 1.0).unwrap();
+            points += 1;
+        }
+    }
+    let tree = model.tree();
+    assert_eq!((model.len(), tree.order_count()), (points, points));
+    assert!(
+        tree.node_count() > points / 2 + 256,
+        "{}",
+        tree.node_count()
+    );
+    assert!(check_tree(tree.as_bytes(), 1).is_clean());
+}
+
+/// The journal's own limit: 2^24 entries, of which all but one are taken from a journal made by hand.
+#[test]
+fn the_journal_ends_at_its_limit() {
+    let entries = mascon::MAX_ENTRIES - 1;
+    let mut words = vec![0; 1 + 3 * entries];
+    words[0] = entries as u32;
+    words[1] = 1 << 30;
+    for entry in words[4..].chunks_exact_mut(3) {
+        entry[0] = 2 << 30;
+    }
+    let mut model = Model::resume(&file(1, &[(0, 0, 0, 0.0, 0.0)]), &words).unwrap();
+    drop(words);
+    model.put(0, 0, 0, 1.0, 1.0).unwrap();
+    assert_eq!(model.entries(), mascon::MAX_ENTRIES);
+    assert_eq!(model.put(0, 0, 0, 2.0, 2.0), Err(Refusal::JournalFull));
+    assert_eq!(model.remove(0, 0, 0), Err(Refusal::JournalFull));
+    model.undo().unwrap();
+    assert_eq!(model.get(0, 0, 0).unwrap().cauchy_mass, 0.0);
+    model.forget_entries();
+    model.remove(0, 0, 0).unwrap();
+    assert_eq!(model.entries(), 1);
+}
+
+/// Ten thousand edits, against a map and a stack that know no bytes.
+#[test]
+fn ten_thousand_edits() {
+    type Masses = Option<(f32, f32)>;
+    let grid = 7;
+    let mut rng = Rng(1);
+    let start = file(
+        grid as u32,
+        &[
+            (3, 3, 3, 1.0, 2.0),
+            (6, 6, 6, 3.0, 4.0),
+            (0, 0, 1, 5.0, 6.0),
+        ],
+    );
+    let mut model = Model::open(&start).unwrap();
+    let opened = model.as_bytes().to_vec();
+    let mut map: BTreeMap<(u32, u32, u32), (f32, f32)> = model
+        .points()
+        .map(|p| ((p.z, p.y, p.x), (p.cauchy_mass, p.elliptic_mass)))
+        .collect();
+    let mut stack: Vec<((u32, u32, u32), Masses)> = Vec::new();
+    for step in 0..10_000 {
+        let [x, y, z] =
+            [0; 3].map(|_| rng.below(grid + u64::from(rng.0.is_multiple_of(40))) as u32);
+        let cell = (z, y, x);
+        let inside = [x, y, z].iter().all(|&index| u64::from(index) < grid);
+        // Puts outweigh and removes outweigh in turn, so that the model fills and empties.
+        let puts = if step / 2000 % 2 == 0 { 5 } else { 2 };
+        let (answer, wanted) = match rng.below(9) {
+            kind if kind < puts => {
+                let (cauchy, elliptic) = (rng.mass(), rng.mass());
+                let answer = model.put(x, y, z, cauchy, elliptic);
+                if inside {
+                    stack.push((cell, map.insert(cell, (cauchy, elliptic))));
+                }
+                (
+                    answer,
+                    if inside {
+                        Ok(())
+                    } else {
+                        Err(Refusal::CoordinateOutOfGrid)
+                    },
+                )
+            }
+            8 => {
+                let answer = model.undo();
+                let wanted = match stack.pop() {
+                    Some((cell, Some(masses))) => {
+                        map.insert(cell, masses);
+                        Ok(())
+                    }
+                    Some((cell, None)) => {
+                        map.remove(&cell);
+                        Ok(())
+                    }
+                    None => Err(Refusal::NothingToUndo),
+                };
+                (answer, wanted)
+            }
+            _ => {
+                let answer = model.remove(x, y, z);
+                let wanted = match map.remove(&cell) {
+                    Some(masses) => {
+                        stack.push((cell, Some(masses)));
+                        Ok(())
+                    }
+                    None if inside => Err(Refusal::EmptyCell),
+                    None => Err(Refusal::CoordinateOutOfGrid),
+                };
+                (answer, wanted)
+            }
+        };
+        assert_eq!(answer, wanted, "step {step}");
+        assert_eq!((model.len(), model.entries()), (map.len(), stack.len()));
+        if step % 50 == 0 {
+            let points = model
+                .points()
+                .map(|p| ((p.z, p.y, p.x), (p.cauchy_mass, p.elliptic_mass)));
+            assert!(points.eq(map.iter().map(|(&cell, &masses)| (cell, masses))));
+            let again = Model::open(model.as_bytes()).unwrap();
+            assert_eq!(again.as_bytes(), model.as_bytes());
+            assert!(check_tree(model.tree().as_bytes(), 1).is_clean());
+            let resumed = Model::resume(model.as_bytes(), model.journal()).unwrap();
+            assert_eq!(resumed.journal(), model.journal());
+            let history = model
+                .history()
+                .map(|e| ((e.cell[2], e.cell[1], e.cell[0]), e.before));
+            assert!(history.eq(stack.iter().copied()));
+        }
+    }
+    while model.entries() > 0 {
+        model.undo().unwrap();
+    }
+    assert_eq!(model.as_bytes(), opened);
+    assert_eq!(model.journal(), [0]);
+}
+
+#[test]
+fn resume_refuses_what_does_not_belong() {
+    let mut model = Model::open(&file(4, &[(0, 1, 2, 1.0, 2.0)])).unwrap();
+    model.put(1, 1, 1, 3.0, 4.0).unwrap();
+    model.remove(0, 1, 2).unwrap();
+    let (bytes, journal) = (model.as_bytes(), model.journal());
+    assert_eq!(
+        model.history().map(|e| e.change).collect::<Vec<_>>(),
+        [Change::Added, Change::Removed]
+    );
+    assert!(Model::resume(bytes, journal).is_ok());
+    let refused = |bytes: &[u8], journal: &[u32]| Model::resume(bytes, journal).unwrap_err();
+    assert_eq!(refused(bytes, &[]), Refusal::BadJournal);
+    assert_eq!(refused(bytes, &journal[..6]), Refusal::BadJournal);
+    assert_eq!(refused(bytes, &[1 << 31]), Refusal::BadJournal);
+    let changed = |at: usize, word: u32| {
+        let mut journal = journal.to_vec();
+        journal[at] = word;
+        journal
+    };
+    // Another cell, kind 0, bits 24 to 29, a cell outside, a mass that is no number; in the first entry too.
+    for (at, word) in [
+        (4, 3 << 30 | 21),
+        (4, 4),
+        (4, journal[4] | 1 << 24),
+        (4, 3 << 30 | 64),
+        (5, 0x7fc0_0000),
+    ] {
+        assert_eq!(refused(bytes, &changed(at, word)), Refusal::BadLastEntry);
+    }
+    assert_eq!(
+        refused(bytes, &changed(1, 3 << 30 | 21)),
+        Refusal::BadLastEntry
+    );
+    assert_eq!(refused(bytes, &changed(1, 1 << 30)), Refusal::BadLastEntry);
+    let mut longer = bytes.to_vec();
+    longer.push(0);
+    assert_eq!(refused(&longer, journal), Refusal::NotWorkingForm);
+    let mut padded = bytes.to_vec();
+    padded[70] = 1;
+    assert_eq!(refused(&padded, journal), Refusal::NotWorkingForm);
+}
+
+#[test]
+fn save_and_load() {
+    let folder = Folder::new("save_and_load");
+    let path = folder.file("body.rym1");
+    let mut model = Model::open(&file(4, &[(0, 1, 2, 1.0, 2.0)])).unwrap();
+    model.save(&path).unwrap();
+    assert_eq!(std::fs::read(&path).unwrap(), model.as_bytes());
+    model.put(3, 3, 3, 5.0, 6.0).unwrap();
+    model.save(&path).unwrap();
+    assert_eq!(
+        Model::open(&std::fs::read(&path).unwrap())
+            .unwrap()
+            .as_bytes(),
+        model.as_bytes()
+    );
+    let tree = folder.file("body.rtm1");
+    model.tree().save(&tree).unwrap();
+    assert_eq!(
+        Tree::open(std::fs::read(&tree).unwrap()).unwrap(),
+        model.tree()
+    );
+    assert_eq!(folder.names(), ["body.rtm1", "body.rym1"]);
+    assert!(model.save(folder.file("none").join("body.rym1")).is_err());
+    assert!(model.save(folder.file("")).is_err());
+    assert_eq!(folder.names(), ["body.rtm1", "body.rym1"]);
+}
+
+/// The first fault listed has the cause by which the library refuses; a file without faults is accepted.
+#[test]
+fn check_agrees_with_the_library() {
+    let mut rng = Rng(7);
+    let mut refused = 0;
+    for _ in 0..20_000 {
+        let grid = 1 + rng.below(5) as u16;
+        let count = rng.below(6) as u32;
+        let mut bytes = file(u32::from(grid), &[]);
+        bytes[12..16].copy_from_slice(&count.to_le_bytes());
+        for _ in 0..count {
+            let [x, y, z] = [0; 3].map(|_| rng.below(u64::from(grid)) as u16);
+            bytes.extend(record(x, y, z, 0, rng.mass(), rng.mass()));
+        }
+        for _ in 0..rng.below(4) {
+            let at = rng.below(bytes.len() as u64) as usize;
+            bytes[at] = match rng.below(3) {
+                0 => 0,
+                1 => 0xff,
+                _ => rng.bits() as u8,
+            };
+        }
+        if rng.below(8) == 0 {
+            bytes.truncate(rng.below(bytes.len() as u64 + 1) as usize);
+        }
+        let report = check_points(&bytes, 1);
+        let opened = Model::open(&bytes);
+        assert_eq!(
+            report.faults.first().map(|fault| fault.cause),
+            opened.as_ref().err().map(|&r| Some(r))
+        );
+        refused += usize::from(opened.is_err());
+        if let Ok(model) = opened {
+            let length =
+                64 + 16 * count.min(u32::from_le_bytes(bytes[12..16].try_into().unwrap())) as usize;
+            let same = model.as_bytes() == &bytes[..length.min(bytes.len())];
+            assert_eq!(check_working_form(&bytes, 1).is_clean(), same);
+        }
+    }
+    assert!(refused > 2_000 && refused < 18_000, "{refused}");
+}
+
+/// Of a tree, each changed byte of header words, boxes, links, counts and order is seen.
+#[test]
+fn damaged_trees_are_seen() {
+    let (mesh, kernels) = shapes::contact_binary(6);
+    let tree = Model::fill(&mesh, &kernels, &kernels, 0.0, 1.0, 10)
+        .unwrap()
+        .tree();
+    let good = tree.as_bytes();
+    let mut rng = Rng(3);
+    for at in 0..good.len() {
+        let nodes = 64..64 + 80 * tree.node_count();
+        let field = if nodes.contains(&at) {
+            (at - 64) % 80
+        } else {
+            0
+        };
+        // Masses, centres of mass; scale, density, volume, and the point count, which may be more than the ordered ones.
+        if (16..24).contains(&field)
+            || (32..44).contains(&field)
+            || (48..60).contains(&field)
+            || (64..76).contains(&field)
+        {
+            continue;
+        }
+        if (12..28).contains(&at) {
+            continue;
+        }
+        let mut bytes = good.to_vec();
+        bytes[at] ^= 1 << rng.below(8);
+        let report = check_tree(&bytes, 3);
+        assert!(!report.is_clean(), "byte {at}");
+        assert!(Tree::open(bytes).is_err());
+    }
+    for length in 0..good.len() {
+        assert!(!check_tree(&good[..length], 1).is_clean());
+    }
+}

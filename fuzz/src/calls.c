@@ -1,0 +1,419 @@
+// One case of each exported call: decoded, made, checked against the rule and against what header and other calls promise.
+#include "calls.h"
+#include "../../include/mascon.h"
+#include "decode.h"
+#include "lend.h"
+
+#define MOST_FILE 16384u
+#define MOST_SCRATCH 32768u // words: g 32
+#define MOST_OUT (1u << 18)
+#define MOST_JOURNAL 512u // words
+#define MOST_LIST 8192u
+#define MOST_TREE (64 + 80 * 2 * MOST_SCRATCH + 4 * MOST_SCRATCH)
+
+uint64_t calls_made, calls_accepted;
+
+static Lent file, scratch, out, journal, triangles, kernels[2], floats;
+static uint8_t want[MOST_TREE], want_journal[4 * MOST_JOURNAL], input_file[MOST_FILE], opened[MOST_OUT];
+static uint32_t lookup[MOST_SCRATCH], order[MOST_SCRATCH];
+static uint64_t keys[MOST_FILE / 16];
+static Mesh mesh;
+
+static void ready(const char *call_name) {
+    static bool made;
+    under_test = call_name;
+    if (made) return;
+    made = true;
+    make_junk();
+    make_lent(&file, "file", MOST_OUT);
+    make_lent(&scratch, "scratch", 4 * MOST_SCRATCH);
+    make_lent(&out, "out", MOST_TREE);
+    make_lent(&journal, "journal", 4 * MOST_JOURNAL);
+    make_lent(&triangles, "triangles", MOST_LIST);
+    make_lent(&kernels[0], "Cauchy kernels", MOST_LIST);
+    make_lent(&kernels[1], "elliptic kernels", MOST_LIST);
+    make_lent(&floats, "floats", 8 * 256);
+}
+
+static void lend_bytes(Lent *lent, const uint8_t *bytes, size_t length, bool at_end) {
+    lend(lent, length, at_end, 0);
+    memcpy(lent->at, bytes, length);
+    keep(lent);
+}
+
+static void lend_junk(Lent *lent, size_t length, bool at_end, uint8_t seed) {
+    lend(lent, length, at_end, seed);
+    keep(lent);
+}
+
+static void check_answer(uint64_t answer, uint64_t right) {
+    if (answer != right) fail("the answer is %llu, not %llu", (unsigned long long)answer, (unsigned long long)right);
+}
+
+/* The number is one that the call may give: a refusal of its list, or a length of whole entries that fits. */
+static void check_possible(uint64_t answer, uint32_t causes, size_t room, size_t entry) {
+    if (answer < 64 ? !(answer < 32 && causes >> answer & 1) : answer > room || (answer - 64) % entry)
+        fail("no call of this name may answer %llu", (unsigned long long)answer);
+}
+
+#define CAUSES_1_TO_7 0xfeu
+#define CAUSE(n) (1u << (n))
+
+static void check_only_read(const Lent *lent) {
+    check_canaries(lent);
+    check_kept(lent, 0, "only read");
+}
+
+/* Opens what stands in `file`, with `scratch`, `out` and `journal` as lent, and checks all of it. */
+static uint64_t open_checked(void) {
+    const char *before = under_test;
+    under_test = "open";
+    uint64_t right = rule_open(file.at, file.length, scratch.length / 4, out.length, journal.length / 4, want, keys);
+    uint64_t answer = mascon_open(file.at, file.length, (uint32_t *)scratch.at, scratch.length / 4, out.at, out.length,
+                                  (uint32_t *)journal.at, journal.length / 4);
+    calls_made++;
+    check_only_read(&file);
+    check_canaries(&scratch);
+    check_canaries(&out);
+    check_canaries(&journal);
+    check_possible(answer, CAUSES_1_TO_7 | CAUSE(8) | CAUSE(9) | CAUSE(13), out.length, 16);
+    check_answer(answer, right);
+    calls_accepted += answer >= 64;
+    if (answer < 64) {
+        check_kept(&out, 0, "refused");
+        check_kept(&journal, 0, "refused");
+        if (answer <= 8) check_kept(&scratch, 0, "refused by 1 to 8");
+    } else {
+        check_bytes(&out, want, 0, answer, "written");
+        check_kept(&out, answer, "past the length");
+        if (get32(journal.at) != 0) fail("journal[0] is %u", get32(journal.at));
+        check_kept(&journal, 4, "past word 0");
+    }
+    under_test = before;
+    return answer;
+}
+
+/* Builds the tree of what stands in `file`, with `scratch` and `out` as lent. */
+static uint64_t build_checked(void) {
+    const char *before = under_test;
+    under_test = "build";
+    uint64_t nodes, ordered;
+    uint64_t right = rule_build(file.at, file.length, scratch.length / 4, out.length, want, lookup, order, &nodes, &ordered);
+    MasconBuilt built = mascon_build(file.at, file.length, (uint32_t *)scratch.at, scratch.length / 4, out.at, out.length);
+    calls_made++;
+    check_only_read(&file);
+    check_canaries(&scratch);
+    check_canaries(&out);
+    check_possible(built.answer, CAUSES_1_TO_7 | CAUSE(8) | CAUSE(9), out.length, 4);
+    check_answer(built.answer, right);
+    calls_accepted += built.answer >= 64;
+    if (built.nodes != nodes || built.order != ordered)
+        fail("%llu nodes and %llu order words, not %llu and %llu", (unsigned long long)built.nodes, (unsigned long long)built.order,
+             (unsigned long long)nodes, (unsigned long long)ordered);
+    if (built.answer < 64) {
+        check_kept(&out, 0, "refused");
+        if (built.answer <= 8) check_kept(&scratch, 0, "refused by 1 to 8");
+    } else {
+        if (built.answer != 64 + 80 * built.nodes + 4 * built.order) fail("the length is not that of the counts");
+        if (built.nodes >= 2 * cube(get32(file.at + 8))) fail("too many nodes");
+        check_bytes(&out, want, 0, built.answer, "written");
+        check_kept(&out, built.answer, "past the length");
+    }
+    under_test = before;
+    return built.answer;
+}
+
+/* An accepted file builds: up to g 8 with the length lent that is always enough, above with the tree's own. */
+static void builds(const uint8_t *bytes, size_t length, bool at_end) {
+    uint64_t cells = cube(get32(bytes + 8)), room = 64 + 80 * (2 * cells - 1) + 4 * cells, nodes, ordered;
+    if (cells > MOST_SCRATCH) return;
+    if (cells > 512) room = rule_build(bytes, length, cells, SIZE_MAX, want, lookup, order, &nodes, &ordered);
+    lend_bytes(&file, bytes, length, at_end);
+    lend_junk(&scratch, 4 * cells, at_end, 3);
+    lend_junk(&out, room, at_end, 4);
+    if (build_checked() < 64) fail("build refuses what is accepted");
+}
+
+/* Opened again, an opened file gives the same bytes, with exactly its length lent. */
+static void reopens(const uint8_t *bytes, size_t length, bool at_end) {
+    uint64_t cells = cube(get32(bytes + 8));
+    if (cells > MOST_SCRATCH) return;
+    lend_bytes(&file, bytes, length, at_end);
+    lend_junk(&scratch, 4 * cells, at_end, 5);
+    lend_junk(&out, length, at_end, 6);
+    lend_junk(&journal, 4, at_end, 7);
+    check_answer(open_checked(), length);
+    check_bytes(&out, file.was, 0, length, "opened again");
+}
+
+void case_narrow(const uint8_t *bytes, size_t length) {
+    ready("narrow");
+    In in = {bytes, bytes + length};
+    do { // every 8 bytes are a number; the last may be cut
+        uint64_t bits = u64(&in);
+        double x;
+        memcpy(&x, &bits, 8);
+        uint64_t answer = mascon_narrow(x);
+        calls_made++;
+        calls_accepted += 2;
+        if (answer >> 32) fail("0x%llx for 0x%016llx", (unsigned long long)answer, (unsigned long long)bits);
+        check_answer(answer, rule_narrow(x));
+        float near = (float)x;
+        uint32_t machine;
+        memcpy(&machine, &near, 4);
+        if (x == x && answer != machine) fail("0x%08llx for 0x%016llx, the machine has 0x%08x", (unsigned long long)answer, (unsigned long long)bits, machine);
+        uint64_t negative = mascon_narrow(-x);
+        calls_made++;
+        if (x == x ? negative != (answer ^ 0x80000000u) : negative != answer) fail("0x%08llx for the negative of 0x%016llx", (unsigned long long)negative, (unsigned long long)bits);
+    } while (in.at < in.end);
+}
+
+void case_inside(const uint8_t *bytes, size_t length) {
+    ready("inside");
+    In in = {bytes, bytes + length};
+    bool at_end = u8(&in) & 1;
+    static uint8_t list[MOST_LIST];
+    size_t list_length = mesh_list(&in, list, MOST_LIST);
+    lend_bytes(&triangles, list, list_length, at_end);
+    double last = 0;
+    int points = 1 + (u8(&in) & 3);
+    size_t lent = length_near(&in, list_length / 72, 256);
+    lend_junk(&floats, 8 * lent, at_end, 1);
+    for (; points > 0; points--) {
+        double point[3];
+        uint8_t class = u8(&in);
+        for (int a = 0; a < 3; a++) // a coordinate of a corner, or any
+            point[a] = class >> a & 1 && list_length >= 72 ? getd(list + 24 * (u8(&in) % (list_length / 24)) + 8 * a) : number(&in, &last);
+        keep(&floats);
+        uint64_t right = rule_inside(&mesh, list, list_length, point, lent);
+        uint64_t answer = mascon_inside(triangles.at, triangles.length, point[0], point[1], point[2], (double *)floats.at, lent);
+        calls_made++;
+        check_only_read(&triangles);
+        check_canaries(&floats);
+        if (answer != 0 && answer != 1 && answer != 17 && answer != 8) fail("no call of this name may answer %llu", (unsigned long long)answer);
+        check_answer(answer, right);
+        calls_accepted += answer <= 1;
+        if (answer > 1) check_kept(&floats, 0, "refused");
+    }
+}
+
+void case_fill(const uint8_t *bytes, size_t length) {
+    ready("fill");
+    In in = {bytes, bytes + length};
+    uint8_t flags = u8(&in);
+    bool at_end = flags & 1;
+    static uint8_t list[MOST_LIST];
+    Body body = {.g = flags & 2 ? u32(&in) : grid(&in)};
+    double last = 0;
+    size_t list_length = mesh_list(&in, list, MOST_LIST);
+    lend_bytes(&triangles, list, list_length, at_end);
+    body.triangles = triangles.was;
+    body.triangles_length = list_length;
+    // lists that are only read may be the same: bit 2, both lists of kernels; bit 4, the Cauchy kernels and the mesh
+    const Lent *lists[2] = {flags & 16 ? &triangles : &kernels[0], &kernels[1]};
+    for (int k = 0; k < 2; k++) {
+        if (k == 1 && flags & 4) lists[1] = lists[0];
+        if (lists[k] == &kernels[k]) lend_bytes(&kernels[k], list, kernel_list(&in, list, MOST_LIST), at_end);
+        body.kernels[k] = lists[k]->was;
+        body.kernels_length[k] = lists[k]->length;
+    }
+    body.target = number(&in, &last);
+    body.density = number(&in, &last);
+    size_t lent = length_near(&in, list_length / 72, 256);
+    uint64_t need = body.g >= 1 && body.g <= 12 ? rule_needed(body.g) : 64;
+    size_t room = length_near(&in, need, 65536);
+    if (body.g > 12 && body.g <= 256 && room >= rule_needed(body.g)) room = 64; // the larger ones take too long
+    lend_junk(&floats, 8 * lent, at_end, 1);
+    lend_junk(&out, room, at_end, 2);
+    uint64_t right = rule_fill(&mesh, &body, lent, room, want);
+    uint64_t answer = mascon_fill(body.g, triangles.at, triangles.length, lists[0]->at, lists[0]->length, lists[1]->at, lists[1]->length,
+                                  body.target, body.density, (double *)floats.at, lent, out.at, room);
+    calls_made++;
+    check_only_read(&triangles);
+    check_only_read(lists[0]);
+    check_only_read(lists[1]);
+    check_canaries(&floats);
+    check_canaries(&out);
+    check_possible(answer, CAUSE(3) | CAUSE(17) | CAUSE(8) | CAUSE(9) | CAUSE(19) | CAUSE(18) | CAUSE(20), room, 16);
+    check_answer(answer, right);
+    calls_accepted += answer >= 64;
+    if (answer == 3 || answer == 17 || answer == 8) check_kept(&floats, 0, "refused by 3, 17 or 8");
+    if (answer == 18 || answer == 20) {
+        memset(want, 0, room);
+        check_bytes(&out, want, 0, room, "refused by 18 or 20");
+    } else if (answer < 64) {
+        check_kept(&out, 0, "refused");
+    } else {
+        check_bytes(&out, want, 0, answer, "written");
+        check_kept(&out, answer, "past the length");
+        memcpy(opened, out.at, answer);
+        reopens(opened, answer, at_end);
+        if (flags & 8) builds(opened, answer, at_end);
+    }
+}
+
+void case_open(const uint8_t *bytes, size_t length) {
+    ready("open");
+    In in = {bytes, bytes + length};
+    uint8_t flags = u8(&in);
+    bool at_end = flags & 1;
+    uint8_t lengths[18]; // lengths stand before the file, whose own takes the rest
+    take(&in, lengths, sizeof lengths);
+    In of = {lengths, lengths + sizeof lengths};
+    size_t file_length = point_file(&in, input_file, MOST_FILE);
+    bool judged = rule_judge(input_file, file_length) == 0;
+    uint64_t cells = judged ? cube(get32(input_file + 8)) : 64;
+    uint64_t occupied = judged ? rule_occupied(input_file, keys) : 1;
+    lend_bytes(&file, input_file, file_length, at_end);
+    lend_junk(&scratch, 4 * length_near(&of, cells, MOST_SCRATCH), at_end, 1);
+    lend_junk(&out, length_near(&of, 64 + 16 * occupied, MOST_OUT), at_end, 2);
+    lend_junk(&journal, 4 * length_near(&of, 1, MOST_JOURNAL), at_end, flags);
+    uint64_t answer = open_checked();
+    if (answer < 64) return;
+    memcpy(opened, out.at, answer);
+    reopens(opened, answer, at_end);
+    if (flags & 2) builds(opened, answer, at_end);
+}
+
+void case_build(const uint8_t *bytes, size_t length) {
+    ready("build");
+    In in = {bytes, bytes + length};
+    bool at_end = u8(&in) & 1;
+    uint8_t lengths[12];
+    take(&in, lengths, sizeof lengths);
+    In of = {lengths, lengths + sizeof lengths};
+    size_t file_length = point_file(&in, input_file, MOST_FILE);
+    bool judged = rule_judge(input_file, file_length) == 0;
+    uint64_t cells = judged ? cube(get32(input_file + 8)) : 64, nodes = 1, ordered = 1, need = 144;
+    if (judged && cells <= MOST_SCRATCH) need = rule_build(input_file, file_length, cells, SIZE_MAX, want, lookup, order, &nodes, &ordered);
+    lend_bytes(&file, input_file, file_length, at_end);
+    lend_junk(&scratch, 4 * length_near(&of, cells, MOST_SCRATCH), at_end, 1);
+    lend_junk(&out, length_near(&of, need, MOST_OUT), at_end, 2);
+    build_checked();
+}
+
+static uint64_t edit_call(const Edit *edit, size_t file_length, size_t words) {
+    calls_made++;
+    float masses[2];
+    memcpy(&masses[0], &edit->cauchy, 4);
+    memcpy(&masses[1], &edit->elliptic, 4);
+    switch (edit->kind) {
+    case PUT: return mascon_put(file.at, file_length, (uint32_t *)journal.at, words, edit->x, edit->y, edit->z, masses[0], masses[1]);
+    case REMOVE: return mascon_remove(file.at, file_length, (uint32_t *)journal.at, words, edit->x, edit->y, edit->z);
+    default: return mascon_undo(file.at, file_length, (uint32_t *)journal.at, words);
+    }
+}
+
+/* An edit with so many bytes and words lent, of buffers that may go on; both whole buffers are checked. */
+static uint64_t edit_checked(const Edit *edit, size_t file_length, size_t words) {
+    static const uint32_t causes[] = {CAUSE(13) | CAUSE(14), CAUSE(12) | CAUSE(13), CAUSE(14) | CAUSE(15) | CAUSE(16)};
+    static const char *const names[] = {"put", "remove", "undo"};
+    const char *before = under_test;
+    under_test = names[edit->kind];
+    keep(&file);
+    keep(&journal);
+    memcpy(want, file.at, file.length);
+    memcpy(want_journal, journal.at, journal.length);
+    uint64_t right = rule_edit(want, file_length, want_journal, words, edit);
+    uint64_t answer = edit_call(edit, file_length, words);
+    check_canaries(&file);
+    check_canaries(&journal);
+    check_possible(answer, CAUSES_1_TO_7 | CAUSE(10) | CAUSE(11) | causes[edit->kind], file_length, 16);
+    check_answer(answer, right);
+    calls_accepted += answer >= 64;
+    check_bytes(&file, want, 0, file.length, answer < 64 ? "refused" : "edited");
+    check_bytes(&journal, want_journal, 0, journal.length, answer < 64 ? "refused" : "entered");
+    under_test = before;
+    return answer;
+}
+
+/* Put and remove are restored by an undo: file up to its length, journal. */
+static void undone_at_once(uint64_t answer, size_t file_length, size_t words) {
+    static uint8_t file_before[MOST_OUT], journal_before[4 * MOST_JOURNAL];
+    if (answer < 64) return;
+    memcpy(file_before, file.was, file.length);
+    memcpy(journal_before, journal.was, journal.length);
+    uint64_t length_before = rule_length(file_before);
+    uint32_t e = get32(journal_before);
+    check_answer(edit_checked(&(Edit){.kind = UNDO}, file_length, words), length_before);
+    check_bytes(&file, file_before, 0, length_before, "undone");
+    check_bytes(&journal, journal_before, 0, 4 + 12ull * e, "undone");
+}
+
+static size_t less(size_t length, size_t by) { return length > by ? length - by : 0; }
+
+/* Any file and journal, then calls, the first of them of one kind. */
+static void case_edit(const uint8_t *bytes, size_t length, int kind) {
+    In in = {bytes, bytes + length};
+    bool at_end = u8(&in) & 1;
+    size_t file_length = point_file(&in, input_file, MOST_FILE);
+    static uint8_t words[4 * MOST_JOURNAL];
+    size_t count = journal_words(&in, input_file, file_length, words, MOST_JOURNAL);
+    lend_bytes(&file, input_file, file_length, at_end);
+    lend_bytes(&journal, words, 4 * count, at_end);
+    int calls = 0;
+    do {
+        Call next = call(&in, file.at, file.length);
+        if (calls == 0) next.edit.kind = kind;
+        size_t lent = less(file.length, next.less_file), lent_words = less(journal.length / 4, next.less_journal);
+        uint64_t answer = edit_checked(&next.edit, lent, lent_words);
+        if (next.undone && next.edit.kind != UNDO) undone_at_once(answer, lent, lent_words);
+    } while (in.at < in.end && ++calls < 32);
+}
+
+void case_put(const uint8_t *bytes, size_t length) { ready("put"); case_edit(bytes, length, PUT); }
+void case_remove(const uint8_t *bytes, size_t length) { ready("remove"); case_edit(bytes, length, REMOVE); }
+void case_undo(const uint8_t *bytes, size_t length) { ready("undo"); case_edit(bytes, length, UNDO); }
+
+/* A file opened, a list of edits on what open left, then every entry undone: the file is as open wrote it. */
+void case_history(const uint8_t *bytes, size_t length) {
+    ready("history");
+    In in = {bytes, bytes + length};
+    uint8_t flags = u8(&in);
+    bool at_end = flags & 1;
+    size_t spare = u8(&in), words = 1 + u8(&in);
+    if (flags & 2) spare *= 16;
+    size_t file_length = point_file(&in, input_file, MOST_FILE);
+    if (rule_judge(input_file, file_length)) return;
+    uint64_t cells = cube(get32(input_file + 8));
+    if (cells > MOST_SCRATCH) return;
+    uint64_t occupied = rule_occupied(input_file, keys);
+    lend_bytes(&file, input_file, file_length, at_end);
+    lend_junk(&scratch, 4 * cells, at_end, 1);
+    lend_junk(&out, 64 + 16 * occupied + spare, at_end, flags);
+    lend_junk(&journal, 4 * words, at_end, 3);
+    uint64_t opened_length = open_checked();
+    if (opened_length < 64) fail("an accepted file is refused");
+    static uint8_t as_opened[MOST_OUT], edited[MOST_OUT];
+    memcpy(as_opened, out.at, out.length);
+    lend_bytes(&file, as_opened, out.length, at_end); // the whole buffer that open wrote into
+    uint32_t entries = 0;
+    for (int calls = 0; in.at < in.end && calls < 64; calls++) {
+        Call next = call(&in, file.at, file.length);
+        size_t lent = less(file.length, next.less_file), lent_words = less(journal.length / 4, next.less_journal);
+        uint64_t answer = edit_checked(&next.edit, lent, lent_words);
+        if (next.edit.kind == UNDO && !next.shorter && answer < 64 && (answer != 15 || entries)) fail("undo of %u entries answers %llu", entries, (unsigned long long)answer);
+        if (next.undone && next.edit.kind != UNDO)
+            undone_at_once(answer, lent, lent_words);
+        else if (answer >= 64)
+            entries = next.edit.kind == UNDO ? entries - 1 : entries + 1;
+        if (get32(journal.at) != entries) fail("journal[0] is %u, not %u", get32(journal.at), entries);
+        if (next.built && calls < 8) { // the edited file opens to itself and builds
+            size_t whole = file.length;
+            uint64_t now = rule_length(file.at);
+            static uint8_t kept_journal[4 * MOST_JOURNAL];
+            memcpy(edited, file.at, whole);
+            memcpy(kept_journal, journal.at, journal.length);
+            size_t kept_length = journal.length;
+            reopens(edited, now, at_end);
+            builds(edited, now, at_end);
+            lend_bytes(&file, edited, whole, at_end);
+            lend_bytes(&journal, kept_journal, kept_length, at_end);
+        }
+    }
+    const Edit undo = {.kind = UNDO};
+    for (; entries > 0; entries--)
+        if (edit_checked(&undo, file.length, journal.length / 4) < 64) fail("undo of %u entries is refused", entries);
+    check_answer(edit_checked(&undo, file.length, journal.length / 4), 15);
+    check_bytes(&file, as_opened, 0, opened_length, "every entry undone");
+}

@@ -1,0 +1,215 @@
+// Generated cases, no coverage: cases N CORPUS FAILURES. Case i of a target is the same on every run, whichever process makes it.
+#include "calls.h"
+#include <dirent.h>
+#include <stdbool.h>
+#include <stdio.h>
+#include <stdlib.h>
+#include <string.h>
+#include <sys/mman.h>
+#include <sys/wait.h>
+#include <unistd.h>
+
+#define PROCESSES 2
+#define MOST 2048u
+
+typedef struct {
+    const char *name;
+    void (*make)(const uint8_t *, size_t);
+    unsigned share; // of 100
+} Target;
+
+static const Target targets[] = {
+    {"narrow", case_narrow, 20}, {"inside", case_inside, 14}, {"fill", case_fill, 4},      {"open", case_open, 14},      {"build", case_build, 12},
+    {"put", case_put, 10},       {"remove", case_remove, 10}, {"undo", case_undo, 10}, {"history", case_history, 6},
+};
+#define TARGETS (sizeof targets / sizeof *targets)
+
+typedef struct {
+    uint64_t cases[TARGETS], calls[TARGETS], accepted[TARGETS];
+    size_t target, length; // the case at hand
+    uint64_t number;
+    uint8_t bytes[MOST];
+} Report;
+
+typedef struct {
+    uint8_t **inputs;
+    size_t *lengths, count;
+} Corpus;
+
+static uint64_t state;
+
+static uint64_t next(void) {
+    uint64_t z = state += 0x9e3779b97f4a7c15u;
+    z = (z ^ z >> 30) * 0xbf58476d1ce4e5b9u;
+    z = (z ^ z >> 27) * 0x94d049bb133111ebu;
+    return z ^ z >> 31;
+}
+
+static uint64_t below(uint64_t n) { return next() % n; }
+
+static int not_hidden(const struct dirent *entry) { return entry->d_name[0] != '.'; }
+
+static Corpus corpus_of(const char *folder, const char *name) {
+    char path[4096];
+    snprintf(path, sizeof path, "%s/%s", folder, name);
+    struct dirent **entries;
+    int found = scandir(path, &entries, not_hidden, alphasort);
+    Corpus corpus = {0};
+    if (found <= 0) return corpus;
+    corpus.inputs = calloc((size_t)found, sizeof *corpus.inputs);
+    corpus.lengths = calloc((size_t)found, sizeof *corpus.lengths);
+    for (int i = 0; i < found; i++) {
+        char whole[8192];
+        snprintf(whole, sizeof whole, "%s/%s", path, entries[i]->d_name);
+        FILE *file = fopen(whole, "rb");
+        if (!file) continue;
+        uint8_t *bytes = malloc(MOST);
+        corpus.inputs[corpus.count] = bytes;
+        corpus.lengths[corpus.count++] = fread(bytes, 1, MOST, file);
+        fclose(file);
+    }
+    return corpus;
+}
+
+static size_t mutated(const Corpus *corpus, uint8_t *bytes) {
+    size_t which = below(corpus->count), length = corpus->lengths[which];
+    memcpy(bytes, corpus->inputs[which], length);
+    for (uint64_t times = below(6); times > 0; times--) {
+        size_t at = length ? below(length) : 0;
+        switch (below(8)) {
+        case 0: if (length) bytes[at] = (uint8_t)next(); break;
+        case 1: if (length) bytes[at] ^= (uint8_t)(1u << below(8)); break;
+        case 2: if (length) bytes[at] = (uint8_t)(bytes[at] + below(9) - 4); break;
+        case 3: if (length) bytes[at] = (uint8_t)below(8); break;
+        case 4: // longer
+            for (uint64_t more = 1 + below(12); more > 0 && length < MOST; more--) bytes[length++] = (uint8_t)next();
+            break;
+        case 5: // a part taken out
+            if (length) {
+                size_t part = 1 + below(length - at < 16 ? length - at : 16);
+                memmove(bytes + at, bytes + at + part, length - at - part);
+                length -= part;
+            }
+            break;
+        case 6: { // the end of another one
+            size_t other = below(corpus->count), from = below(corpus->lengths[other] + 1);
+            size_t part = corpus->lengths[other] - from;
+            if (part > MOST - at) part = MOST - at;
+            memcpy(bytes + at, corpus->inputs[other] + from, part);
+            length = at + part;
+            break;
+        }
+        case 7: // a part over another
+            if (length) {
+                size_t from = below(length), part = 1 + below(16);
+                if (part > length - at) part = length - at;
+                if (part > length - from) part = length - from;
+                memmove(bytes + at, bytes + from, part);
+            }
+            break;
+        }
+    }
+    return length;
+}
+
+static size_t generated(const Target *target, const Corpus *corpus, uint8_t *bytes) {
+    if (target->make == case_narrow) { // exponents of binary32 and beside, ties and their neighbours
+        uint64_t exponent = below(4) ? 1023 - 156 + below(290) : below(2048), fraction = next() >> 12;
+        if (below(2)) fraction = (fraction >> 29 << 29 | 1u << 28) + below(3) - 1;
+        if (!below(4)) fraction &= ~0ull << below(52);
+        uint64_t pattern = next() >> 63 << 63 | exponent << 52 | (fraction & ((1ull << 52) - 1));
+        memcpy(bytes, &pattern, 8);
+        return 8;
+    }
+    uint64_t way = below(4);
+    if (way < 2 && corpus->count) return mutated(corpus, bytes);
+    size_t length = 4 + below(below(4) ? 120 : 400);
+    bool calm = way != 3; // zeros and small bytes
+    for (size_t i = 0; i < length; i++) {
+        uint64_t r = next();
+        bytes[i] = (uint8_t)(calm && r >> 62 ? (r >> 61 & 1 ? 0 : r >> 8 & 15) : r);
+    }
+    if (calm && (target->make == case_open || target->make == case_build)) memset(bytes + 1, 0, 12); // all lengths as needed
+    size_t at = target->make == case_open ? 19 : target->make == case_build ? 13 : target->make == case_history ? 3 : target->make == case_fill ? 2 : 1;
+    if (calm && at < length) bytes[at] = (uint8_t)(next() & 0xe0) | 1 | (below(4) ? 0 : (uint8_t)below(32)); // fields, mostly undamaged
+    return length;
+}
+
+static void work(Report *report, const Corpus *corpora, uint64_t whole, unsigned process) {
+    for (size_t t = 0; t < TARGETS; t++) {
+        uint64_t cases = whole * targets[t].share / 100;
+        report->target = t;
+        for (uint64_t i = process; i < cases; i += PROCESSES) {
+            state = (i << 4 | t) * 0x2545f4914f6cdd1du;
+            report->number = i;
+            report->length = generated(&targets[t], &corpora[t], report->bytes);
+            uint64_t before = calls_made, accepted = calls_accepted;
+            targets[t].make(report->bytes, report->length);
+            report->calls[t] += calls_made - before;
+            report->accepted[t] += calls_accepted - accepted;
+            report->cases[t]++;
+        }
+    }
+}
+
+static const char *grouped(uint64_t n) {
+    static char texts[8][32];
+    static int which;
+    char plain[32], *text = texts[which = (which + 1) % 8];
+    int digits = snprintf(plain, sizeof plain, "%llu", (unsigned long long)n), to = 0;
+    for (int i = 0; i < digits; i++) {
+        if (i && (digits - i) % 3 == 0) text[to++] = ',';
+        text[to++] = plain[i];
+    }
+    text[to] = 0;
+    return text;
+}
+
+int main(int count, char **words) {
+    if (count != 4) return fprintf(stderr, "cases N CORPUS FAILURES\n"), 2;
+    uint64_t whole = strtoull(words[1], NULL, 10);
+    Corpus corpora[TARGETS];
+    for (size_t t = 0; t < TARGETS; t++) corpora[t] = corpus_of(words[2], targets[t].name);
+    Report *reports = mmap(NULL, PROCESSES * sizeof *reports, PROT_READ | PROT_WRITE, MAP_SHARED | MAP_ANONYMOUS, -1, 0);
+    if (reports == MAP_FAILED) return 2;
+    pid_t processes[PROCESSES];
+    for (unsigned p = 0; p < PROCESSES; p++) {
+        processes[p] = fork();
+        if (processes[p] < 0) return 2;
+        if (processes[p] == 0) {
+            work(&reports[p], corpora, whole, p);
+            _exit(0);
+        }
+    }
+    unsigned failures[TARGETS] = {0}, failed = 0;
+    for (unsigned p = 0; p < PROCESSES; p++) {
+        int status;
+        waitpid(processes[p], &status, 0);
+        if (WIFEXITED(status) && WEXITSTATUS(status) == 0) continue;
+        Report *report = &reports[p];
+        char path[4096];
+        snprintf(path, sizeof path, "%s/%s-case-%llu", words[3], targets[report->target].name, (unsigned long long)report->number);
+        FILE *file = fopen(path, "wb");
+        if (file) {
+            fwrite(report->bytes, 1, report->length, file);
+            fclose(file);
+        }
+        fprintf(stderr, "%s: case %llu failed; input in %s\n", targets[report->target].name, (unsigned long long)report->number, path);
+        failures[report->target]++;
+        failed++;
+    }
+    uint64_t cases = 0, calls = 0;
+    for (size_t t = 0; t < TARGETS; t++) {
+        uint64_t of[3] = {0};
+        for (unsigned p = 0; p < PROCESSES; p++) {
+            of[0] += reports[p].cases[t];
+            of[1] += reports[p].calls[t];
+            of[2] += reports[p].accepted[t];
+        }
+        cases += of[0];
+        calls += of[1];
+        printf("%s: %s cases, %s calls, %s of them accepted, %u failures\n", targets[t].name, grouped(of[0]), grouped(of[1]), grouped(of[2]), failures[t]);
+    }
+    printf("total: %s cases, %s calls, %u failures\n", grouped(cases), grouped(calls), failed);
+    return failed != 0;
+}

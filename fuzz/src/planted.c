@@ -1,0 +1,94 @@
+// A library that misbehaves: the calls are wrapped by the linker (--wrap) and one fault, FAULT, is planted in what they do.
+#include "../../include/mascon.h"
+#include <string.h>
+
+static uint32_t word(const uint8_t *at) { uint32_t v; memcpy(&v, at, 4); return v; }
+static void set_word(uint8_t *at, uint32_t v) { memcpy(at, &v, 4); }
+static int fault(int n) { return FAULT == n; }
+
+uint64_t __real_mascon_narrow(double x);
+uint64_t __wrap_mascon_narrow(double x) {
+    uint64_t answer = __real_mascon_narrow(x), bits;
+    memcpy(&bits, &x, 8);
+    if (fault(1) && (bits & 0x1fffffff) == 0x10000000) answer ^= 1; // ties
+    return answer;
+}
+
+uint64_t __real_mascon_inside(const uint8_t *triangles, size_t triangles_length, double x, double y, double z, double *floats, size_t floats_length);
+uint64_t __wrap_mascon_inside(const uint8_t *triangles, size_t triangles_length, double x, double y, double z, double *floats, size_t floats_length) {
+    uint64_t answer = __real_mascon_inside(triangles, triangles_length, x, y, z, floats, floats_length);
+    if (fault(2) && answer == 8 && floats_length) floats[0] = 1;
+    if (fault(3) && answer == 1 && triangles_length > 72 * 12) answer = 0;
+    if (fault(4) && answer <= 1) floats[floats_length] = 0; // past the end
+    return answer;
+}
+
+uint64_t __real_mascon_fill(uint32_t g, const uint8_t *triangles, size_t triangles_length, const uint8_t *cauchy_kernels, size_t cauchy_kernels_length,
+                            const uint8_t *elliptic_kernels, size_t elliptic_kernels_length, double target_mass, double constant_density,
+                            double *floats, size_t floats_length, uint8_t *out, size_t out_length);
+uint64_t __wrap_mascon_fill(uint32_t g, const uint8_t *triangles, size_t triangles_length, const uint8_t *cauchy_kernels, size_t cauchy_kernels_length,
+                            const uint8_t *elliptic_kernels, size_t elliptic_kernels_length, double target_mass, double constant_density,
+                            double *floats, size_t floats_length, uint8_t *out, size_t out_length) {
+    uint64_t answer = __real_mascon_fill(g, triangles, triangles_length, cauchy_kernels, cauchy_kernels_length, elliptic_kernels, elliptic_kernels_length,
+                                         target_mass, constant_density, floats, floats_length, out, out_length);
+    if (fault(5) && answer == 18) out[out_length - 1] = 1; // not all zeroed
+    if (fault(6) && answer > 64 && target_mass > 0) out[answer - 1] ^= 0x80;
+    return answer;
+}
+
+uint64_t __real_mascon_open(const uint8_t *file, size_t file_length, uint32_t *scratch, size_t scratch_length, uint8_t *out, size_t out_length, uint32_t *journal, size_t journal_length);
+uint64_t __wrap_mascon_open(const uint8_t *file, size_t file_length, uint32_t *scratch, size_t scratch_length, uint8_t *out, size_t out_length, uint32_t *journal, size_t journal_length) {
+    volatile uint8_t seen;
+    if (fault(7)) seen = file[file_length]; // reads past the end
+    uint64_t answer = __real_mascon_open(file, file_length, scratch, scratch_length, out, out_length, journal, journal_length);
+    if (fault(8) && answer >= 64 && answer < out_length) out[answer] ^= 1;
+    if (fault(9) && answer >= 64 && answer == out_length) out[answer] ^= 1;
+    if (fault(10) && answer == 8 && scratch_length) scratch[scratch_length - 1] ^= 1;
+    if (fault(11) && answer > 64) answer++;
+    if (fault(24) && answer >= 64 && word(file + 12) == 29 && word(file + 8) == 7) out[answer - 1] ^= 1; // one grid and count
+    if (fault(12) && answer >= 64 && journal_length > 1) journal[1] = 0;
+    (void)seen;
+    return answer;
+}
+
+uint64_t __real_mascon_put(uint8_t *file, size_t file_length, uint32_t *journal, size_t journal_length, uint32_t x, uint32_t y, uint32_t z, float cauchy, float elliptic);
+uint64_t __wrap_mascon_put(uint8_t *file, size_t file_length, uint32_t *journal, size_t journal_length, uint32_t x, uint32_t y, uint32_t z, float cauchy, float elliptic) {
+    uint64_t answer = __real_mascon_put(file, file_length, journal, journal_length, x, y, z, cauchy, elliptic);
+    if (fault(13) && answer >= 64 && journal[3 * journal[0] - 2] >> 30 == 2) journal[3 * journal[0]] = 0; // the mass before is lost
+    if (fault(14) && answer == 14) journal[0] = 0;
+    if (fault(23) && answer >= 64 && x == 5 && y == 1 && z == 4 && cauchy == 3.0f) file[24] ^= 1; // one cell and mass
+    return answer;
+}
+
+uint64_t __real_mascon_remove(uint8_t *file, size_t file_length, uint32_t *journal, size_t journal_length, uint32_t x, uint32_t y, uint32_t z);
+uint64_t __wrap_mascon_remove(uint8_t *file, size_t file_length, uint32_t *journal, size_t journal_length, uint32_t x, uint32_t y, uint32_t z) {
+    uint64_t answer = __real_mascon_remove(file, file_length, journal, journal_length, x, y, z);
+    if (fault(15) && answer >= 64) file[answer] = 1; // a freed byte not 0
+    if (fault(16) && answer == 12) answer = 13;
+    return answer;
+}
+
+uint64_t __real_mascon_undo(uint8_t *file, size_t file_length, uint32_t *journal, size_t journal_length);
+uint64_t __wrap_mascon_undo(uint8_t *file, size_t file_length, uint32_t *journal, size_t journal_length) {
+    uint64_t answer = __real_mascon_undo(file, file_length, journal, journal_length);
+    if (fault(17) && answer > 64 + 16) { // the last record is lost
+        set_word(file + 12, word(file + 12) - 1);
+        answer -= 16;
+    }
+    if (fault(18) && answer >= 64 && journal[0] >= 3) file[answer - 1] ^= 1; // only with three entries left
+    return answer;
+}
+
+MasconBuilt __real_mascon_build(const uint8_t *file, size_t file_length, uint32_t *scratch, size_t scratch_length, uint8_t *out, size_t out_length);
+MasconBuilt __wrap_mascon_build(const uint8_t *file, size_t file_length, uint32_t *scratch, size_t scratch_length, uint8_t *out, size_t out_length) {
+    MasconBuilt built = __real_mascon_build(file, file_length, scratch, scratch_length, out, out_length);
+    if (fault(19) && built.answer >= 64 && built.nodes > 1) built.nodes--;
+    if (fault(20) && built.answer >= 64 && built.order > 8) { // two order words exchanged
+        uint32_t last = word(out + built.answer - 4), before = word(out + built.answer - 8);
+        set_word(out + built.answer - 4, before);
+        set_word(out + built.answer - 8, last);
+    }
+    if (fault(21) && built.answer == 9) out[0] ^= 1;
+    if (fault(22) && built.answer >= 64 && file_length > 64) ((uint8_t *)file)[28] ^= 1; // what is only read
+    return built;
+}
