@@ -7,20 +7,20 @@ pub mod draw;
 mod ffi;
 mod fill;
 mod model;
+mod model_file;
 mod points;
 mod refusal;
 mod save;
-mod session;
 pub mod shapes;
 pub mod text;
 mod tree;
 
 pub use fill::{build_mascon, is_inside, narrow, Kernel, Triangle};
 pub use model::{Change, Entry, Model, MAX_ENTRIES};
+pub use model_file::{journal_entries, journal_path, ModelFile, ModelFileError};
 pub use points::{build_mascon_tree, parse_mascon_bytes, Header, MasconSource, Point, Points};
 pub use refusal::{Labelled, Refusal};
 pub use save::write_file;
-pub use session::{journal_entries, journal_path, Session, SessionError};
 pub use tree::{Node, Tree};
 
 /// The finest grid: cells on each axis.

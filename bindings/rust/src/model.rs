@@ -366,7 +366,7 @@ impl Model {
     }
 
     /// Writes the point file beside `path` and renames it, so that a failure leaves `path` as it was. The journal is not saved;
-    /// [`Session`](crate::Session) keeps both.
+    /// [`ModelFile`](crate::ModelFile) keeps both.
     ///
     /// # Errors
     /// Those of the file system.

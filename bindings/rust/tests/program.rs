@@ -228,17 +228,17 @@ fn a_journal_and_its_model_belong_together() {
         let mut damaged = new.1.clone();
         damaged[at] ^= 0x10;
         set(&new.0, &damaged);
-        let ran = mascon::Session::load(path("m.rym1"));
+        let ran = mascon::ModelFile::load(path("m.rym1"));
         assert!(ran.is_err(), "byte {at}");
         set(&new.0, &new.1[..at]);
         assert!(
-            mascon::Session::load(path("m.rym1")).is_err(),
+            mascon::ModelFile::load(path("m.rym1")).is_err(),
             "cut at {at}"
         );
     }
     // One run at a time.
     set(&new.0, &new.1);
-    let held = mascon::Session::load(path("m.rym1")).unwrap();
+    let held = mascon::ModelFile::load(path("m.rym1")).unwrap();
     fails(
         &folder,
         "undo m.rym1",

@@ -3,7 +3,7 @@
 use super::args::Args;
 use super::{drop_journal, free_of_journal, quoted, read, read_text, say, write, Failure};
 use mascon::text::{parse_edits, Edit};
-use mascon::{Change, Model, Session, Tree};
+use mascon::{Change, Model, ModelFile, Tree};
 use std::fmt::Write as _;
 use std::path::Path;
 
@@ -27,34 +27,34 @@ pub(crate) fn open(args: &Args) -> Result<(), Failure> {
     Ok(())
 }
 
-fn load(path: &Path) -> Result<Session, Failure> {
-    let session = Session::load(path).map_err(|error| Failure::failed(error.to_string()))?;
-    if session.finished_write {
+fn load(path: &Path) -> Result<ModelFile, Failure> {
+    let model_file = ModelFile::load(path).map_err(|error| Failure::failed(error.to_string()))?;
+    if model_file.finished_write {
         eprintln!(
             "mascon: {}: an earlier run was cut off while saving; its save is finished now",
             quoted(path)
         );
     }
-    if session.reordered {
+    if model_file.reordered {
         eprintln!(
             "mascon: {}: not in working form, it will be written so",
             quoted(path)
         );
     }
-    Ok(session)
+    Ok(model_file)
 }
 
-fn save(session: &mut Session) -> Result<(), Failure> {
-    session
+fn save(model_file: &mut ModelFile) -> Result<(), Failure> {
+    model_file
         .save()
         .map_err(|error| Failure::failed(error.to_string()))
 }
 
-fn state(session: &Session) -> String {
+fn state(model_file: &ModelFile) -> String {
     format!(
         "{} points, {} edits to undo",
-        session.model.len(),
-        session.model.entries()
+        model_file.model.len(),
+        model_file.model.entries()
     )
 }
 
@@ -70,19 +70,19 @@ pub(crate) fn edit(name: &str, args: &Args) -> Result<(), Failure> {
     let mut words = vec![name];
     words.extend(args.words().skip(1));
     let edit = Edit::parse(&words).map_err(Failure::usage)?;
-    let mut session = load(Path::new(args.word(0)))?;
-    edit.apply(&mut session.model)
+    let mut model_file = load(Path::new(args.word(0)))?;
+    edit.apply(&mut model_file.model)
         .map_err(|refusal| Failure::refused(edit, refusal))?;
-    let before = session
+    let before = model_file
         .model
         .history()
         .next_back()
         .and_then(|entry| entry.before);
-    save(&mut session)?;
+    save(&mut model_file)?;
     say(format!(
         "{edit}: the cell {}; {}\n",
         masses(before),
-        state(&session)
+        state(&model_file)
     ));
     Ok(())
 }
@@ -92,16 +92,16 @@ pub(crate) fn undo(args: &Args) -> Result<(), Failure> {
     if args.flag("--all") && args.option("--steps").is_some() {
         return Err(Failure::usage("--all and --steps exclude each other"));
     }
-    let mut session = load(Path::new(args.word(0)))?;
+    let mut model_file = load(Path::new(args.word(0)))?;
     let steps = if args.flag("--all") {
-        session.model.entries()
+        model_file.model.entries()
     } else {
         steps
     };
     let mut text = String::new();
     for step in 0..steps {
-        let last = session.model.history().next_back();
-        session.model.undo().map_err(|refusal| {
+        let last = model_file.model.history().next_back();
+        model_file.model.undo().map_err(|refusal| {
             Failure::refused(format!("undo, step {} of {steps}", step + 1), refusal)
         })?;
         if let Some(entry) = last.filter(|_| step < 10) {
@@ -113,8 +113,8 @@ pub(crate) fn undo(args: &Args) -> Result<(), Failure> {
             let _ = writeln!(text, "undo: cell ({x}, {y}, {z}) {now}");
         }
     }
-    save(&mut session)?;
-    let _ = writeln!(text, "{steps} undone; {}", state(&session));
+    save(&mut model_file)?;
+    let _ = writeln!(text, "{steps} undone; {}", state(&model_file));
     say(text);
     Ok(())
 }
@@ -124,10 +124,10 @@ pub(crate) fn apply(args: &Args) -> Result<(), Failure> {
     let keep_going = args.flag("--keep-going");
     let in_list = |why: String| Failure::failed(format!("{}: {why}", quoted(list)));
     let edits = parse_edits(&read_text(list)?).map_err(|error| in_list(error.to_string()))?;
-    let mut session = load(path)?;
+    let mut model_file = load(path)?;
     let mut refused = 0;
     for (line, edit) in &edits {
-        if let Err(refusal) = edit.apply(&mut session.model) {
+        if let Err(refusal) = edit.apply(&mut model_file.model) {
             let why = format!("line {line}: {edit}: {refusal}");
             if !keep_going {
                 return Err(in_list(format!("{why}; nothing is changed")));
@@ -136,12 +136,12 @@ pub(crate) fn apply(args: &Args) -> Result<(), Failure> {
             eprintln!("mascon: {}: {why}", quoted(list));
         }
     }
-    save(&mut session)?;
+    save(&mut model_file)?;
     let made = edits.len() - refused;
     say(format!(
         "{made} of {} edits made; {}\n",
         edits.len(),
-        state(&session)
+        state(&model_file)
     ));
     if refused > 0 {
         return Err(in_list(format!(
@@ -152,9 +152,9 @@ pub(crate) fn apply(args: &Args) -> Result<(), Failure> {
 }
 
 pub(crate) fn log(args: &Args) -> Result<(), Failure> {
-    let session = load(Path::new(args.word(0)))?;
+    let model_file = load(Path::new(args.word(0)))?;
     let mut text = String::new();
-    for (i, entry) in session.model.history().enumerate() {
+    for (i, entry) in model_file.model.history().enumerate() {
         let [x, y, z] = entry.cell;
         let what = match entry.change {
             Change::Added | Change::Replaced => "put",
@@ -167,7 +167,7 @@ pub(crate) fn log(args: &Args) -> Result<(), Failure> {
             masses(entry.before)
         );
     }
-    let _ = writeln!(text, "{}", state(&session));
+    let _ = writeln!(text, "{}", state(&model_file));
     say(text);
     Ok(())
 }

@@ -4,7 +4,7 @@ use super::args::Args;
 use super::{quoted, read, say, write, Failure};
 use mascon::check::{check_points, check_tree, check_working_form, Report};
 use mascon::draw::{difference, Mass, Picture};
-use mascon::{journal_entries, Model, SessionError, Tree};
+use mascon::{journal_entries, Model, ModelFileError, Tree};
 use std::fmt::Write as _;
 use std::path::Path;
 
@@ -212,7 +212,7 @@ pub(crate) fn check(args: &Args) -> Result<(), Failure> {
                 Ok(Some(entries)) => {
                     let _ = writeln!(text, "journal: {entries} edits, each fits its cell");
                 }
-                Err(error @ SessionError::File(..)) => {
+                Err(error @ ModelFileError::File(..)) => {
                     return Err(Failure::failed(error.to_string()))
                 }
                 Err(error) => {

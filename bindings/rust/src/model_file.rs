@@ -12,7 +12,7 @@ const JOURNAL_HEADER: usize = 24;
 /// Why a model file and its journal could not be taken up or written.
 #[derive(Debug)]
 #[non_exhaustive]
-pub enum SessionError {
+pub enum ModelFileError {
     /// The file system refused, at this file.
     File(PathBuf, io::Error),
     /// The model is refused.
@@ -25,20 +25,20 @@ pub enum SessionError {
     NotTogether(PathBuf),
 }
 
-impl fmt::Display for SessionError {
+impl fmt::Display for ModelFileError {
     fn fmt(&self, f: &mut fmt::Formatter<'_>) -> fmt::Result {
         match self {
-            SessionError::File(path, error) => write!(f, "{}: {error}", path.display()),
-            SessionError::Model(path, refusal) => write!(f, "{}: {refusal}", path.display()),
-            SessionError::InUse(path) => {
+            ModelFileError::File(path, error) => write!(f, "{}: {error}", path.display()),
+            ModelFileError::Model(path, refusal) => write!(f, "{}: {refusal}", path.display()),
+            ModelFileError::InUse(path) => {
                 write!(f, "{}: another run is editing this model", path.display())
             }
-            SessionError::BadJournal(path, why) => write!(
+            ModelFileError::BadJournal(path, why) => write!(
                 f,
                 "{}: {why}; move it away to go on from the model without undo",
                 path.display()
             ),
-            SessionError::NotTogether(path) => write!(
+            ModelFileError::NotTogether(path) => write!(
                 f,
                 "{}: this journal does not belong to its model, something else has written one of the two; \
                  bring back the other, or move the journal away to go on from the model without undo",
@@ -48,36 +48,36 @@ impl fmt::Display for SessionError {
     }
 }
 
-impl std::error::Error for SessionError {}
+impl std::error::Error for ModelFileError {}
 
 /// A model file under edit with its journal beside it (`MODEL.journal`), so that undo works across runs.
 ///
-/// The journal file names its model by length and hash. [`save`](Session::save) writes both beside (`.pending`) and whole, then renames
+/// The journal file names its model by length and hash. [`save`](ModelFile::save) writes both beside (`.pending`) and whole, then renames
 /// the journal, then the model. A run that is cut off before the first rename leaves the old pair; one cut off between the two leaves
-/// the new journal and the new model's `.pending` file, and the next [`load`](Session::load) finishes that rename. Any other pair that
-/// does not belong together is refused. The model file is locked while a session has it.
+/// the new journal and the new model's `.pending` file, and the next [`load`](ModelFile::load) finishes that rename. Any other pair that
+/// does not belong together is refused. The model file is locked while it is loaded.
 ///
 /// ```
-/// use mascon::{shapes, Model, Session};
+/// use mascon::{shapes, Model, ModelFile};
 ///
-/// # let folder = std::env::temp_dir().join(format!("mascon-session-{}", std::process::id()));
+/// # let folder = std::env::temp_dir().join(format!("mascon-model-file-{}", std::process::id()));
 /// # std::fs::create_dir_all(&folder)?;
 /// let path = folder.join("body.rym1");
 /// Model::open(&shapes::empty_file(8, [-4.0; 3], [4.0; 3]))?.save(&path)?;
 ///
-/// let mut session = Session::load(&path)?;
-/// session.model.put(1, 2, 3, 5.0e6, 4.0e6)?;
-/// session.save()?;
-/// drop(session);
+/// let mut model_file = ModelFile::load(&path)?;
+/// model_file.model.put(1, 2, 3, 5.0e6, 4.0e6)?;
+/// model_file.save()?;
+/// drop(model_file);
 ///
-/// let mut session = Session::load(&path)?;
-/// session.model.undo()?;
-/// assert!(session.model.is_empty());
+/// let mut model_file = ModelFile::load(&path)?;
+/// model_file.model.undo()?;
+/// assert!(model_file.model.is_empty());
 /// # std::fs::remove_dir_all(&folder)?;
 /// # Ok::<(), Box<dyn std::error::Error>>(())
 /// ```
 #[derive(Debug)]
-pub struct Session {
+pub struct ModelFile {
     /// The model, to be edited.
     pub model: Model,
     /// Whether a write that was cut off has been finished on loading.
@@ -153,25 +153,25 @@ pub fn journal_path(model: impl AsRef<Path>) -> PathBuf {
 pub fn journal_entries(
     model: impl AsRef<Path>,
     bytes: &[u8],
-) -> Result<Option<usize>, SessionError> {
+) -> Result<Option<usize>, ModelFileError> {
     let path = journal_path(model);
     match read_journal(&path)? {
         None => Ok(None),
-        Some(journal) if !journal.fits(bytes) => Err(SessionError::NotTogether(path)),
+        Some(journal) if !journal.fits(bytes) => Err(ModelFileError::NotTogether(path)),
         Some(journal) => match Model::resume(bytes, &journal.words) {
             Ok(model) => Ok(Some(model.entries())),
-            Err(refusal) => Err(SessionError::Model(path, refusal)),
+            Err(refusal) => Err(ModelFileError::Model(path, refusal)),
         },
     }
 }
 
-fn read_journal(path: &Path) -> Result<Option<Journal>, SessionError> {
+fn read_journal(path: &Path) -> Result<Option<Journal>, ModelFileError> {
     match fs::read(path) {
         Ok(bytes) => Journal::of(&bytes)
             .map(Some)
-            .map_err(|why| SessionError::BadJournal(path.to_path_buf(), why)),
+            .map_err(|why| ModelFileError::BadJournal(path.to_path_buf(), why)),
         Err(error) if error.kind() == io::ErrorKind::NotFound => Ok(None),
-        Err(error) => Err(SessionError::File(path.to_path_buf(), error)),
+        Err(error) => Err(ModelFileError::File(path.to_path_buf(), error)),
     }
 }
 
@@ -188,13 +188,13 @@ fn same_file(_: &File, _: &Path) -> io::Result<bool> {
 }
 
 /// Opens and locks a file, the one that stands at `path` once the lock is held.
-fn open_locked(path: &Path) -> Result<File, SessionError> {
-    let failed = |error| SessionError::File(path.to_path_buf(), error);
+fn open_locked(path: &Path) -> Result<File, ModelFileError> {
+    let failed = |error| ModelFileError::File(path.to_path_buf(), error);
     loop {
         let file = File::open(path).map_err(failed)?;
         match file.try_lock() {
             Ok(()) => {}
-            Err(TryLockError::WouldBlock) => return Err(SessionError::InUse(path.to_path_buf())),
+            Err(TryLockError::WouldBlock) => return Err(ModelFileError::InUse(path.to_path_buf())),
             Err(TryLockError::Error(error)) => return Err(failed(error)),
         }
         if same_file(&file, path).map_err(failed)? {
@@ -203,15 +203,15 @@ fn open_locked(path: &Path) -> Result<File, SessionError> {
     }
 }
 
-impl Session {
+impl ModelFile {
     /// Takes up a model file and the journal beside it, or an empty journal where there is none.
     ///
     /// # Errors
-    /// See [`SessionError`].
-    pub fn load(path: impl AsRef<Path>) -> Result<Session, SessionError> {
+    /// See [`ModelFileError`].
+    pub fn load(path: impl AsRef<Path>) -> Result<ModelFile, ModelFileError> {
         let path = target(path.as_ref());
         let journal_path = beside(&path, ".journal");
-        let failed = |error| SessionError::File(path.clone(), error);
+        let failed = |error| ModelFileError::File(path.clone(), error);
         let mut lock = open_locked(&path)?;
         let mut bytes = Vec::new();
         lock.read_to_end(&mut bytes).map_err(failed)?;
@@ -222,7 +222,7 @@ impl Session {
                 let pending = beside(&path, ".pending");
                 match fs::read(&pending) {
                     Ok(new) if journal.fits(&new) => bytes = new,
-                    _ => return Err(SessionError::NotTogether(journal_path)),
+                    _ => return Err(ModelFileError::NotTogether(journal_path)),
                 }
                 fs::rename(&pending, &path).map_err(failed)?;
                 lock = open_locked(&path)?;
@@ -236,12 +236,12 @@ impl Session {
         let model = match model {
             Ok(model) => model,
             Err(refusal @ (Refusal::BadJournal | Refusal::BadLastEntry)) => {
-                return Err(SessionError::Model(journal_path, refusal));
+                return Err(ModelFileError::Model(journal_path, refusal));
             }
-            Err(refusal) => return Err(SessionError::Model(path, refusal)),
+            Err(refusal) => return Err(ModelFileError::Model(path, refusal)),
         };
         let reordered = model.as_bytes() != bytes;
-        Ok(Session {
+        Ok(ModelFile {
             model,
             finished_write,
             reordered,
@@ -254,7 +254,7 @@ impl Session {
     ///
     /// # Errors
     /// Those of the file system; both files are then as they were, or the next load finishes the write.
-    pub fn save(&mut self) -> Result<(), SessionError> {
+    pub fn save(&mut self) -> Result<(), ModelFileError> {
         let journal = beside(&self.path, ".journal");
         let [new_model, new_journal] = [&self.path, &journal].map(|path| beside(path, ".pending"));
         let write = |path: &Path, bytes: &[u8]| {
@@ -262,10 +262,10 @@ impl Session {
             let _ = fs::remove_file(path);
             let written = File::create(path)
                 .and_then(|mut file| write_whole(&mut file, bytes, &self.path).map(|()| file));
-            written.map_err(|error| SessionError::File(path.to_path_buf(), error))
+            written.map_err(|error| ModelFileError::File(path.to_path_buf(), error))
         };
         let rename = |from: &Path, to: &Path| {
-            fs::rename(from, to).map_err(|error| SessionError::File(to.to_path_buf(), error))
+            fs::rename(from, to).map_err(|error| ModelFileError::File(to.to_path_buf(), error))
         };
         let written = write(&new_model, self.model.as_bytes()).and_then(|file| {
             // Locked before it stands under the model's name.
