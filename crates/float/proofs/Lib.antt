@@ -7,3 +7,4 @@ pub mod Kit
 pub mod Machine
 pub mod Finite
 pub mod WholePart
+pub mod Zeros

@@ -3,4 +3,3 @@ pub mod Listing
 pub mod QuickLaws
 pub mod Sorting
 pub mod Thinning
-pub mod Zeros
