@@ -10,14 +10,14 @@ use lib.Ieee.{Float, nan, inf, fin, ofBits, up, down, lt, le}
 use lib.Ieee.Positive.{first-pos}
 use lib.Ieee.Fits.{up-pos}
 use borrow.Author.Tests.{ltb-true, lt-ltb, not-false}
-use Rattle.float.specs.Number.{abs}
+use Rattle.float.specs.Number.{zero64, one64, abs}
 use Rattle.filling.specs.declared.Vec3.{Vec3}
 use Rattle.filling.specs.declared.Triangle.{Triangle}
 use Rattle.filling.specs.declared.Crossing.{Crossing}
 use Rattle.filling.specs.declared.Crossing.the-variants.{At, Miss}
 use Rattle.filling.specs.declared.Bounds.{Bounds}
 use Rattle.filling.specs.declared.Indices.{Indices}
-use Rattle.filling.specs.Vector.{plus, zero64, one64}
+use Rattle.filling.specs.Vector.{plus}
 use Rattle.filling.specs.Ray.{eps, misses, ray}
 use Rattle.filling.specs.Inside.{candidate, crossing, listed, crossings, sorted}
 use Rattle.filling.proofs.Sorted.{differ, over-zero, Above, AtMost, sorted-ascends}

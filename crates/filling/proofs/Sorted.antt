@@ -13,7 +13,7 @@ use lib.Ieee.{Float, nan, inf, fin, ofBits, up, down, lt, le}
 use lib.Ieee.Positive.{above, first-pos, cross→le, le-trans-positive}
 use denote.Floats.{passes, is-true}
 use borrow.Author.Tests.{ltb-true, ltb-false, le-ltb}
-use Rattle.filling.specs.Vector.{zero64}
+use Rattle.float.specs.Number.{zero64}
 use Rattle.filling.specs.Inside.{placed, sorted}
 
 -- ---- a permutation

@@ -1,9 +1,10 @@
 -- The density of kernels at a point (density_at, alpha exactly 1). Definitions only.
 use mathlib.Core.List.{List, [], _∷_}
 use lib.Ieee.{Float}
+use Rattle.float.specs.Number.{zero64, one64}
 use Rattle.filling.specs.declared.Vec3.{Vec3}
 use Rattle.filling.specs.declared.Kernel.{Kernel}
-use Rattle.filling.specs.Vector.{plus, times, over, zero64, one64, sub, dot}
+use Rattle.filling.specs.Vector.{plus, times, over, sub, dot}
 
 -- w ÷ (1 + sigma·sigma·d²)
 unfoldable pub weight : Kernel → Vec3 → Float

@@ -6,7 +6,7 @@ use lib.ListN.{length, replicate}
 use lib.Dec.{eqb, ltb}
 use lib.Ieee.{Float, binary32, binary64, mul, lt, ofBits, toBits}
 use Rattle.float.specs.Narrow.{narrow64}
-use Rattle.float.specs.Number.{abs}
+use Rattle.float.specs.Number.{zero64, one64, tiny, abs}
 use Rattle.rym1.specs.declared.Point.{Point}
 use Rattle.rym1.specs.Bytes.{wordsBytes, splice}
 use Rattle.rym1.specs.Causes.{when, first, Outcome, outcome, refuse}
@@ -16,7 +16,7 @@ use Rattle.filling.specs.declared.Triangle.{Triangle}
 use Rattle.filling.specs.declared.Kernel.{Kernel}
 use Rattle.filling.specs.declared.Bounds.{Bounds}
 use Rattle.filling.specs.declared.Frame.{Frame}
-use Rattle.filling.specs.Vector.{plus, times, over, zero64, one64}
+use Rattle.filling.specs.Vector.{plus, times, over}
 use Rattle.filling.specs.Lists.{mesh, kernels, massLimit, upTo, meshWrong, kernelsWrong}
 use Rattle.filling.specs.Inside.{bounds, testBox, isInside}
 use Rattle.filling.specs.Density.{densityAt}
@@ -60,10 +60,6 @@ massOf f g ks c = times (densityAt ks (middle f g c)) (f .volume)
 unfoldable pub rawFrom : Frame → ℕ → List Kernel → Float → List ℕ → Float
 rawFrom f g ks sum [] = sum
 rawFrom f g ks sum (c ∷ cs) = rawFrom f g ks (plus sum (massOf f g ks c)) cs
-
--- 1e-30
-abbrev pub tiny : Float
-tiny = ofBits binary64 0x39b4_484b_feeb_c2a0
 
 -- target ÷ raw sum where the target is above 0 and |raw sum| above 1e-30, else 1
 unfoldable pub scaleOf : Float → Float → Float

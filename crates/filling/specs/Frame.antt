@@ -1,15 +1,15 @@
 -- Where the cells of a filling lie (build_mascon). Definitions only.
 use Prim.Native.Nat.{ℕ, _/_, _%_}
 use lib.Ieee.{Float}
-use Rattle.float.specs.Number.{scalarMin, num}
+use Rattle.float.specs.Number.{half, scalarMin, num}
 use Rattle.filling.specs.declared.Vec3.{Vec3}
 use Rattle.filling.specs.declared.Bounds.{Bounds}
 use Rattle.filling.specs.declared.Frame.{Frame}
-use Rattle.filling.specs.Vector.{plus, minus, times, over, half64, vec, sub}
+use Rattle.filling.specs.Vector.{plus, minus, times, over, vec, sub}
 
 -- 0.5·shortest ÷ g
 unfoldable pub padding : Bounds → ℕ → Float
-padding b g = let extent = sub (b .max) (b .min) in over (times half64 (scalarMin (scalarMin (extent .x) (extent .y)) (extent .z))) (num g)
+padding b g = let extent = sub (b .max) (b .min) in over (times half (scalarMin (scalarMin (extent .x) (extent .y)) (extent .z))) (num g)
 
 -- the box moved outward by pad; extent ÷ n per axis; the product of the three
 unfoldable pub framePadded : Bounds → Float → Float → Frame
@@ -26,7 +26,7 @@ frame b g = framePadded b (padding b g) (num g)
 
 -- min + (n + 0.5)·cell
 unfoldable pub middleOn : Float → Float → ℕ → Float
-middleOn min cell n = plus min (times (plus (num n) half64) cell)
+middleOn min cell n = plus min (times (plus (num n) half) cell)
 
 -- the point of a cell number: x runs fastest, then y, then z
 unfoldable pub middle : Frame → ℕ → ℕ → Vec3

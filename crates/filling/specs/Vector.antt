@@ -1,6 +1,6 @@
 -- Steps in binary64, each rounded once, and vectors of three, grouped as in model.rs. Definitions only.
 use lib.Ieee as ieee
-use lib.Ieee.{Float, binary64, ofBits}
+use lib.Ieee.{Float, binary64}
 use Rattle.filling.specs.declared.Vec3.{Vec3}
 
 -- x + y, x − y, x · y, x ÷ y
@@ -15,16 +15,6 @@ times x y = ieee.mul binary64 x y
 
 abbrev pub over : Float → Float → Float
 over x y = ieee.div binary64 x y
-
--- 0, 1, 0.5
-abbrev pub zero64 : Float
-zero64 = ofBits binary64 0
-
-abbrev pub one64 : Float
-one64 = ofBits binary64 0x3ff0_0000_0000_0000
-
-abbrev pub half64 : Float
-half64 = ofBits binary64 0x3fe0_0000_0000_0000
 
 abbrev pub vec : Float → Float → Float → Vec3
 vec x y z = record { x = x; y = y; z = z }

@@ -13,12 +13,12 @@ use lib.Ieee.Fits.{sub-fits, mul-fits, neg-fits, and-l}
 use lib.Ieee.Scale.{finite}
 use lib.Ieee.Positive.{num, den, positive}
 use denote.Floats.{passes, is-true}
-use Rattle.float.specs.Number.{abs}
+use Rattle.float.specs.Number.{zero64, one64, abs}
 use Rattle.rym1.proofs.Causes.{and-true-l, and-true-r}
 use Rattle.filling.specs.declared.Vec3.{Vec3}
 use Rattle.filling.specs.declared.Triangle.{Triangle}
 use Rattle.filling.specs.declared.Crossing.the-variants.{At, Miss}
-use Rattle.filling.specs.Vector.{plus, minus, times, over, zero64, one64, vec, sub, cross, dot}
+use Rattle.filling.specs.Vector.{plus, minus, times, over, vec, sub, cross, dot}
 use Rattle.filling.specs.Lists.{coordinateLimit, pointLimit, upTo, vectorUpTo, goodTriangle}
 use Rattle.filling.specs.Ray.{eps, direction, misses, ray}
 use Rattle.inside.specs.Quick.{quickMiss}

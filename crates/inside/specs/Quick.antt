@@ -1,10 +1,10 @@
 -- A test of y and z alone that most triangles fail: the ray's determinant and u without the products by 0. Definitions only.
 use mathlib.Core.Bool.{Bool, not, _&&_, _||_}
 use lib.Ieee.{lt, le}
-use Rattle.float.specs.Number.{abs}
+use Rattle.float.specs.Number.{zero64, one64, abs}
 use Rattle.filling.specs.declared.Vec3.{Vec3}
 use Rattle.filling.specs.declared.Triangle.{Triangle}
-use Rattle.filling.specs.Vector.{minus, times, over, zero64, one64}
+use Rattle.filling.specs.Vector.{minus, times, over}
 use Rattle.filling.specs.Ray.{eps}
 
 unfoldable pub quickMiss : Vec3 → Triangle → Bool

@@ -9,6 +9,7 @@ use native.Mathlib.Omega.{arith}
 use lib.ListN.{length, length-append}
 use lib.Ieee.{Float}
 use borrow.Author.Tests.{lt-ltb, le-ltb}
+use Rattle.float.specs.Number.{zero64}
 use Rattle.rym1.specs.Bytes.{splice}
 use Rattle.rym1.specs.File.{size, cube, pointBytes, pointsBytes}
 use Rattle.rym1.proofs.Bytes.{length-splice, splice-none, behind}
@@ -17,7 +18,7 @@ use Rattle.rym1.proofs.Cells.{cube-few}
 use Rattle.filling.specs.declared.Kernel.{Kernel}
 use Rattle.filling.specs.declared.Triangle.{Triangle}
 use Rattle.filling.specs.declared.Frame.{Frame}
-use Rattle.filling.specs.Vector.{plus, zero64}
+use Rattle.filling.specs.Vector.{plus}
 use Rattle.filling.specs.Inside.{testBox, isInside}
 use Rattle.filling.specs.Frame.{middle}
 use Rattle.filling.specs.Fill.{capacity, innerFrom, inner, massOf, rawFrom}

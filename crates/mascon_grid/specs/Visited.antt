@@ -6,6 +6,7 @@ use mathlib.Core.List.{List, [], _∷_}
 use lib.ListN.{length}
 use lib.Dec.{ltb}
 use lib.Ieee.{Float}
+use Rattle.float.specs.Number.{zero64}
 use Rattle.rym1.specs.declared.Point.{Point}
 use Rattle.rym1.specs.Bytes.{splice}
 use Rattle.rym1.specs.File.{size, pointsBytes}
@@ -13,7 +14,6 @@ use Rattle.rym1.specs.Cells.{cellPoint}
 use Rattle.filling.specs.declared.Kernel.{Kernel}
 use Rattle.filling.specs.declared.Triangle.{Triangle}
 use Rattle.filling.specs.declared.Frame.{Frame}
-use Rattle.filling.specs.Vector.{zero64}
 use Rattle.filling.specs.Lists.{mesh, goodTriangles}
 use Rattle.filling.specs.Fill.{narrowed, capacity, inner, massOf, rawFrom}
 use Rattle.mascon_grid.specs.declared.visit.Found.{Found}

@@ -5,7 +5,7 @@ use mathlib.Core.List.{List, [], _∷_, _++_}
 use lib.ListN.{length, getD}
 use lib.Ieee.{Float, binary32, binary64, nan, add, sub, mul, div, lt, ofBits, toBits}
 use Rattle.float.specs.Narrow.{narrow64}
-use Rattle.float.specs.Number.{abs, scalarMax, num}
+use Rattle.float.specs.Number.{half, tiny, abs, scalarMax, num}
 use Rattle.rym1.specs.Bytes.{le32}
 use Rattle.rym1.specs.File.{grid, boxMin, boxMax}
 use Rattle.rtm1.specs.declared.Cells.{Cells}
@@ -14,13 +14,7 @@ use Rattle.rtm1.specs.declared.Sums.{Sums}
 use Rattle.rtm1.specs.Visit.{zero3, nothing}
 use Rattle.rtm1.specs.Tree.{Tree, empty, leaf, split, nodeCount, order, occupied}
 
--- 0.5, 1e-30, −1
-abbrev pub half : Float
-half = ofBits binary64 0x3fe0_0000_0000_0000
-
-abbrev pub tiny : Float
-tiny = ofBits binary64 0x39b4_484b_feeb_c2a0
-
+-- −1
 abbrev pub minusOne : Float
 minusOne = ofBits binary64 0xbff0_0000_0000_0000
 

@@ -4,7 +4,7 @@ use Prim.Native.Nat.{ℕ, zero, suc, _+_}
 use mathlib.Core.List.{List, [], _∷_, _++_}
 use lib.ListN.{getD}
 use lib.Ieee.{Float, binary32, binary64, nan, add, mul, ofBits}
-use Rattle.float.specs.Number.{num}
+use Rattle.float.specs.Number.{zero64, num}
 use Rattle.rym1.specs.File.{cell}
 use Rattle.rym1.specs.Cells.{Slot, vacant, held}
 use Rattle.rtm1.specs.declared.Cells.{Cells}
@@ -48,14 +48,14 @@ visit look g b = run (plane look g b) (b .z0) (width Z b)
 -- ---- sums
 
 abbrev pub zero3 : List Float
-zero3 = ofBits binary64 0 ∷ ofBits binary64 0 ∷ ofBits binary64 0 ∷ []
+zero3 = zero64 ∷ zero64 ∷ zero64 ∷ []
 
 abbrev pub nothing : Sums
 nothing =
     record {
       count = 0;
-      cauchy = ofBits binary64 0;
-      elliptic = ofBits binary64 0;
+      cauchy = zero64;
+      elliptic = zero64;
       «cauchy_moment» = zero3;
       «elliptic_moment» = zero3;
       «constant_moment» = zero3;

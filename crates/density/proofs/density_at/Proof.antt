@@ -5,7 +5,7 @@ use lib.ListN.{length}
 use native.Mathlib.Nat.{sub-zero}
 use native.Mathlib.Omega.{arith}
 use borrow.Author.Needs.{needs}
-use Rattle.filling.specs.Vector.{zero64}
+use Rattle.float.specs.Number.{zero64}
 use Rattle.filling.specs.Lists.{kernelsAt, kernels}
 use Rattle.filling.specs.Density.{densityFrom, densityAt}
 use Rattle.filling.proofs.Lists.{kernels-more}

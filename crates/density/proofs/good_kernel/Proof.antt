@@ -2,7 +2,7 @@
 use borrow.Author.Needs.{needs}
 use borrow.Author.Tests.{not-true, not-false}
 use lib.Ieee.{le}
-use Rattle.filling.specs.Vector.{zero64}
+use Rattle.float.specs.Number.{zero64}
 use Rattle.filling.specs.Lists.{coordinateLimit, goodKernel}
 use Rattle.density.proofs.good_kernel.Statement.{statement}
 use Rattle.density.proofs.good_kernel.Tie as tie

@@ -4,8 +4,8 @@ use mathlib.Core.Path.{_≡_, sym, ap, _∙_}
 use mathlib.Core.Bool.{Bool, true, false, cond}
 use native.Mathlib.Omega.{arith}
 use lib.Ieee.{lt}
-use Rattle.float.specs.Number.{abs}
-use Rattle.rtm1.specs.Node.{tiny, over, fallback, centre}
+use Rattle.float.specs.Number.{tiny, abs}
+use Rattle.rtm1.specs.Node.{over, fallback, centre}
 use borrow.Author.Needs.{needs}
 use Rattle.node.proofs.centre.Statement.{statement}
 use Rattle.node.proofs.centre.Tie as tie

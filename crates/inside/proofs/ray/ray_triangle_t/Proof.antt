@@ -2,7 +2,8 @@
 use lib.Ieee.{lt, le}
 use borrow.Author.Needs.{needs}
 use borrow.Author.Tests.{not-true, not-false}
-use Rattle.filling.specs.Vector.{times, over, zero64, one64}
+use Rattle.float.specs.Number.{zero64, one64}
+use Rattle.filling.specs.Vector.{times, over}
 use Rattle.filling.specs.Ray.{eps, misses, ray}
 use Rattle.inside.proofs.ray.ray_triangle_t.Statement.{statement}
 use Rattle.inside.proofs.ray.ray_triangle_t.Tie as tie

@@ -1,7 +1,7 @@
 -- `mascon_grid::scaling::scale_of` meets its contract: each way out rewrites with the tests that led there. Assumes nothing.
 use lib.Ieee.{lt}
 use borrow.Author.Tests.{not-true, not-false}
-use Rattle.filling.specs.Vector.{zero64}
+use Rattle.float.specs.Number.{zero64}
 use Rattle.filling.specs.Fill.{scaleOf}
 use borrow.Author.Needs.{needs}
 use Rattle.mascon_grid.proofs.scaling.scale_of.Statement.{statement}
