@@ -1,8 +1,6 @@
 // Whether a point lies inside a mesh (inside.rs): a scan with the accelerator's candidates, in place of its cell lists and stamps.
 pub mod accelerator;
 pub mod crossings;
-pub mod quick;
-pub mod ray;
 
 ghost use mathlib.Core.Path.{_≡_};
 ghost use mathlib.Core.Bool.{true};

@@ -1,12 +1,12 @@
--- `inside::ray::ray_triangle_t` meets its contract: at each return the calls' results stand for the definition's parts, and the tests on the way decide whether it is a miss. Assumes nothing.
+-- `ray::ray_triangle_t` meets its contract: at each return the calls' results stand for the definition's parts, and the tests on the way decide whether it is a miss. Assumes nothing.
 use lib.Ieee.{lt, le}
 use borrow.Author.Needs.{needs}
 use borrow.Author.Tests.{not-true, not-false}
 use Rattle.float.specs.Number.{zero64, one64}
 use Rattle.filling.specs.Vector.{times, over}
 use Rattle.filling.specs.Ray.{eps, misses, ray}
-use Rattle.inside.proofs.ray.ray_triangle_t.Statement.{statement}
-use Rattle.inside.proofs.ray.ray_triangle_t.Tie as tie
+use Rattle.ray.proofs.ray_triangle_t.Statement.{statement}
+use Rattle.ray.proofs.ray_triangle_t.Tie as tie
 
 sub-requires : tie.Need-sub-requires
 sub-requires c κs = search needs

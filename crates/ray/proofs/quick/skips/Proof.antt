@@ -1,11 +1,11 @@
--- `inside::quick::skips` meets its contract: the quick test answers for the ray's. Assumes nothing.
+-- `ray::quick::skips` meets its contract: the quick test answers for the ray's. Assumes nothing.
 use mathlib.Core.Path.{sym, _∙_}
 use mathlib.Core.Bool.{true≢false}
 use borrow.Author.Needs.{needs}
 use borrow.Author.Tests.{not-false}
-use Rattle.inside.proofs.QuickLaws.{quick-misses}
-use Rattle.inside.proofs.quick.skips.Statement.{statement}
-use Rattle.inside.proofs.quick.skips.Tie as tie
+use Rattle.ray.proofs.QuickLaws.{quick-misses}
+use Rattle.ray.proofs.quick.skips.Statement.{statement}
+use Rattle.ray.proofs.quick.skips.Tie as tie
 
 returns : tie.Need-returns
 returns c = λ e. absurd (true≢false (sym e))

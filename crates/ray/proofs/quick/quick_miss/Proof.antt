@@ -1,4 +1,4 @@
--- `inside::quick::quick_miss` meets its contract. Assumes nothing.
+-- `ray::quick::quick_miss` meets its contract. Assumes nothing.
 use lib.Ieee.{le}
 use borrow.Author.Tests.{not-true, not-false}
 use Rattle.float.specs.Number.{zero64, one64}
@@ -6,12 +6,12 @@ use Rattle.filling.specs.Vector.{minus, times, over}
 use native.Mathlib.Omega.{arith}
 use Rattle.filling.specs.Lists.{float, vec3, triangle}
 use Rattle.filling.proofs.Lists.{triangle-numbers}
-use Rattle.inside.specs.Quick.{quickMiss}
+use Rattle.ray.specs.Quick.{quickMiss}
 use borrow.Author.Needs.{needs}
-use Rattle.inside.proofs.quick.quick_miss.Statement.{statement}
-use Rattle.inside.proofs.quick.quick_miss.Tie as tie
-use Rattle.inside.proofs.quick.quick_miss.Reads as reads
-use Rattle.inside.proofs.quick.quick_miss.Lts as lts
+use Rattle.ray.proofs.quick.quick_miss.Statement.{statement}
+use Rattle.ray.proofs.quick.quick_miss.Tie as tie
+use Rattle.ray.proofs.quick.quick_miss.Reads as reads
+use Rattle.ray.proofs.quick.quick_miss.Lts as lts
 use Rattle.binary.proofs.number_at.Reads as number-at-reads
 use Rattle.float.proofs.number.abs.Reads as abs-reads
 

@@ -21,7 +21,7 @@ use Rattle.filling.specs.declared.Crossing.the-variants.{At, Miss}
 use Rattle.filling.specs.Vector.{plus, minus, times, over, vec, sub, cross, dot}
 use Rattle.filling.specs.Lists.{coordinateLimit, pointLimit, upTo, vectorUpTo, goodTriangle}
 use Rattle.filling.specs.Ray.{eps, direction, misses, ray}
-use Rattle.inside.specs.Quick.{quickMiss}
+use Rattle.ray.specs.Quick.{quickMiss}
 use Rattle.float.proofs.Zeros.{Zero, Same, UpTo, same-trans, same-zero, neg-zero, mul-neg, zero-times, times-zero, mul-same, one-times, add-sym, zero-plus, plus-zero, add-same, zero-lt, zero-le-zero, zero-le-positive, sub-finite}
 
 -- ---- the determinant, and u's numerator, without the products by 0

@@ -1,4 +1,6 @@
 // Where a ray along +X crosses a triangle.
+pub mod quick;
+
 ghost use mathlib.Core.Path.{_≡_};
 ghost use Rattle.filling.specs.Ray.{ray};
 use filling::Crossing;
