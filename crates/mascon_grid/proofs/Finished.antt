@@ -17,7 +17,7 @@ use Rattle.rym1.proofs.Bytes.{length-splice, splice-comm, splice-splice, length
 use Rattle.rym1.proofs.Points.{length-points, length-points-at}
 use Rattle.filling.specs.declared.Frame.{Frame}
 use Rattle.filling.specs.Fill.{narrowed, scaleOf, corners, massesFinite, cleared}
-use Rattle.mascon_grid.specs.declared.visit.Found.{Found}
+use Rattle.visit.specs.declared.Found.{Found}
 use Rattle.mascon_grid.specs.Scaled.{scaledPoints, headerOf, writtenPoints, finished}
 use Rattle.mascon_grid.proofs.ScalingLoops.{length-scaled}
 

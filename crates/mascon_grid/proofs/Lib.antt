@@ -2,4 +2,3 @@ pub mod Finished
 pub mod Raw
 pub mod Outcomes
 pub mod ScalingLoops
-pub mod Visiting

@@ -24,10 +24,10 @@ use Rattle.filling.specs.Frame.{frame}
 use Rattle.filling.specs.Fill.{Task, task, narrowed, capacity, inner, frameOf, cellsOf, rawOf, scaleBy, recordsOf, measures, corners, rawSums, headerWords, fileBytes}
 use Rattle.filling.specs.Fill.{massesFinite, floatsFinite, boxFlat, listsWrong, fillCause, cleared, filled, fill, early}
 use Rattle.filling.proofs.Lists.{mesh-good}
-use Rattle.mascon_grid.specs.declared.visit.Found.{Found}
-use Rattle.mascon_grid.specs.declared.visit.Visit.{Visit}
-use Rattle.mascon_grid.specs.declared.visit.Visit.the-variants.{Done, Full}
-use Rattle.mascon_grid.specs.Visited.{rawPoints, found, visited, Visiting, Ready}
+use Rattle.visit.specs.declared.Found.{Found}
+use Rattle.visit.specs.declared.Visit.{Visit}
+use Rattle.visit.specs.declared.Visit.the-variants.{Done, Full}
+use Rattle.visit.specs.Visited.{rawPoints, found, visited, Visiting, Ready}
 use Rattle.mascon_grid.specs.Scaled.{scaledPoints, headerOf, writtenPoints, finished}
 use Rattle.mascon_grid.proofs.Finished.{header-long, length-written}
 use Rattle.mascon_grid.proofs.Raw.{zero-finite, inner-fit, raw-long, raw-at, scaled-are}

@@ -26,9 +26,9 @@ use Rattle.filling.specs.Lists.{kernels}
 use Rattle.filling.specs.Inside.{isInside, testBox}
 use Rattle.filling.specs.Frame.{middle}
 use Rattle.filling.specs.Fill.{Task, narrowed, product, innerFrom, inner, massOf, frameOf, scaleBy, writtenMass, recordOf, recordsOf}
-use Rattle.mascon_grid.specs.Visited.{rawPoint, rawPoints}
+use Rattle.visit.specs.Visited.{rawPoint, rawPoints}
 use Rattle.mascon_grid.specs.Scaled.{scaledPoint, scaledPoints}
-use Rattle.mascon_grid.proofs.Visiting.{length-raw-points}
+use Rattle.visit.proofs.Visiting.{length-raw-points}
 
 -- ---- a narrowed product is a word
 

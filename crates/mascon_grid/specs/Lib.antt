@@ -1,2 +1,1 @@
-pub mod Visited
 pub mod Scaled

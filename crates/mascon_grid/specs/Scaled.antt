@@ -10,7 +10,7 @@ use Rattle.rym1.specs.Causes.{Outcome, outcome}
 use Rattle.rym1.specs.File.{size, allFinite, pointsAt, pointsBytes}
 use Rattle.filling.specs.declared.Frame.{Frame}
 use Rattle.filling.specs.Fill.{narrowed, product, scaleOf, corners, massesFinite, cleared}
-use Rattle.mascon_grid.specs.declared.visit.Found.{Found}
+use Rattle.visit.specs.declared.Found.{Found}
 
 -- both masses times a scale, as patterns
 unfoldable pub scaledPoint : ℕ → ℕ → Point → Point

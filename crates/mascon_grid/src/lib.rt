@@ -1,7 +1,5 @@
 // Fill: the point file of a mesh (mascon_grid.rs).
-pub mod frame;
 pub mod scaling;
-pub mod visit;
 
 ghost use mathlib.Core.Path.{_≡_};
 ghost use mathlib.Core.Bool.{true};
@@ -13,13 +11,11 @@ ghost use Rattle.filling.specs.Lists.{mesh};
 ghost use Rattle.filling.specs.Inside.{testBox, bounds};
 ghost use Rattle.filling.specs.Frame as def;
 ghost use Rattle.filling.specs.Fill.{task, listsWrong, filled, fill, early};
-ghost use Rattle.mascon_grid.specs.Visited.{Ready};
+ghost use Rattle.visit.specs.Visited.{Ready};
 ghost use Rattle.mascon_grid.specs.Scaled.{finished};
 use density::kernels_wrong;
 use filling::Bounds;
 use filling::Frame;
-use frame::box_flat;
-use frame::frame_of;
 use inside::accelerator::bounds_of;
 use inside::accelerator::padded;
 use model::mesh_wrong;
@@ -33,6 +29,8 @@ use scaling::scale_of;
 use visit::Found;
 use visit::Visit;
 use visit::capacity_of;
+use visit::frame::box_flat;
+use visit::frame::frame_of;
 use visit::visit_cells;
 
 // 17.

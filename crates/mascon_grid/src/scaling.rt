@@ -8,7 +8,6 @@ ghost use Rattle.rym1.specs.Bytes.{splice};
 ghost use Rattle.rym1.specs.File.{finite, allFinite, pointAt, pointsAt, pointBytes, pointsBytes};
 ghost use Rattle.filling.specs.Fill.{product, scaleOf, massesFinite};
 ghost use Rattle.mascon_grid.specs.Scaled.{scaledPoint, scaledPoints, headerOf};
-use crate::visit::Found;
 use filling::Frame;
 use float::narrow;
 use float::number::abs;
@@ -18,6 +17,7 @@ use points::judge::is_finite;
 use points::records::out_point;
 use points::records::point_at;
 use rym1::Point;
+use visit::Found;
 
 // What the masses of a raw sum are scaled by.
 pub fn scale_of(target: f64, sum: f64) -> f64

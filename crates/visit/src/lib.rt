@@ -1,0 +1,123 @@
+// The cells in z, y, x order: the records of those whose point lies inside, and the raw sums.
+pub mod frame;
+
+ghost use mathlib.Core.Path.{_≡_};
+ghost use Prim.Native.Nat.{_+_, _*_, _≤_, _<_};
+ghost use lib.ListN.{length};
+ghost use Rattle.rym1.specs.Bytes.{splice};
+ghost use Rattle.rym1.specs.File.{pointBytes};
+ghost use Rattle.filling.specs.Vector.{times, plus};
+ghost use Rattle.filling.specs.Lists.{mesh, kernels};
+ghost use Rattle.filling.specs.Inside.{testBox};
+ghost use Rattle.filling.specs.Density.{densityAt};
+ghost use Rattle.filling.specs.Frame as def;
+ghost use Rattle.filling.specs.Fill.{capacity, massOf, inner};
+ghost use Rattle.visit.specs.Visited.{rawPoint, Visiting, Ready};
+use density::density_at;
+use filling::Bounds;
+use filling::Frame;
+use filling::Vec3;
+use frame::middle;
+use inside::is_inside;
+use points::records::cell_point;
+use points::records::out_point;
+
+// How many points, and the raw sums of their masses.
+pub struct Found {
+    pub count: u32,
+    pub cauchy: f64,
+    pub elliptic: f64,
+}
+
+// What a visit comes to: its finds, or more points than half the cells.
+pub enum Visit {
+    Done(Found),
+    Full,
+}
+
+// A mass at a point: density × volume.
+fn mass_at(list: &[u8], p: Vec3, volume: f64) -> f64
+    ensures { λ r. ⌜ r ≡ times (densityAt (kernels (now (list .entry))) p) volume ⌝ }
+{
+    density_at(list, p) * volume
+}
+
+// Adds the cell c, whose point p lies inside: its record behind the others, its masses to the sums.
+fn add_cell(
+    cauchy: &[u8],
+    elliptic: &[u8],
+    f: Frame,
+    g: u32,
+    c: u32,
+    p: Vec3,
+    w: Found,
+    out: &mut [u8],
+) -> Found
+    requires { ⌜ (0 < g) × (w .count < 16777216) × (64 + 16 * w .count + 16 ≤ length (now out)) ⌝ }
+    requires { ⌜ p ≡ def.middle f g c ⌝ }
+    ensures { λ r. ⌜ r ≡ record {
+      count = w .count + 1;
+      cauchy = plus (w .cauchy) (massOf f g (kernels (now (cauchy .entry))) c);
+      elliptic = plus (w .elliptic) (massOf f g (kernels (now (elliptic .entry))) c);
+    } ⌝ }
+    ensures { λ _. ⌜ now (out .exit) ≡ splice (now (out .entry)) (64 + 16 * w .count)
+        (pointBytes (rawPoint f g (kernels (now (cauchy .entry))) (kernels (now (elliptic .entry))) c)) ⌝ }
+{
+    let count = w.count;
+    let first = mass_at(cauchy, p, f.volume);
+    let second = mass_at(elliptic, p, f.volume);
+    let point = cell_point(g, c, float::narrow(first), float::narrow(second));
+    out_point(out, 64 + 16 * (count as usize), point);
+    Found {
+        count: count + 1,
+        cauchy: w.cauchy + first,
+        elliptic: w.elliptic + second,
+    }
+}
+
+// Half the cells, rounded up.
+pub fn capacity_of(g: u32) -> u32
+    requires { ⌜ g ≤ 256 ⌝ }
+    ensures { λ r. ⌜ r ≡ capacity g ⌝ }
+{
+    (g * g * g + 1) / 2
+}
+
+// Visits all cells of the frame f; b is the inside test's box.
+pub fn visit_cells(
+    triangles: &[u8],
+    cauchy: &[u8],
+    elliptic: &[u8],
+    b: Bounds,
+    f: Frame,
+    g: u32,
+    floats: &mut [f64],
+    out: &mut [u8],
+) -> Visit
+    requires { ⌜ Ready (now triangles) g (now floats) (now out) ⌝ }
+    requires { ⌜ b ≡ testBox (mesh (now triangles)) ⌝ }
+    ensures { λ r. ⌜ Visiting f g (kernels (now (cauchy .entry))) (kernels (now (elliptic .entry)))
+        (inner (mesh (now (triangles .entry))) f g) (now (out .entry)) r (now (out .exit)) ⌝ }
+{
+    let cells = g * g * g;
+    let capacity = capacity_of(g);
+    let mut w = Found {
+        count: 0,
+        cauchy: 0.0,
+        elliptic: 0.0,
+    };
+    let mut c: u32 = 0;
+    while c < cells {
+        let at = c;
+        c += 1;
+        let p = middle(f, g, at);
+        if !is_inside(triangles, b, p, floats) {
+            continue;
+        }
+        if capacity <= w.count {
+            return Visit::Full;
+        }
+        w = add_cell(cauchy, elliptic, f, g, at, p, w, out);
+    }
+    Visit::Done(w)
+}
