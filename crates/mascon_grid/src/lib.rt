@@ -105,19 +105,19 @@ fn fill_frame(
     finish(out, g, f, w, target, density)
 }
 
-// Fill: the point file of a mesh into `out`.
+// Fill: the point file of the mesh s into `out`.
 pub fn build_mascon(
     g: u32,
-    triangles: &[u8],
-    cauchy_kernels: &[u8],
-    elliptic_kernels: &[u8],
-    target_mass: f64,
-    constant_density: f64,
+    s: &[u8],
+    cauchy: &[u8],
+    elliptic: &[u8],
+    target: f64,
+    density: f64,
     floats: &mut [f64],
     out: &mut [u8],
 ) -> Answer
     ensures { λ r. ⌜ (outcome (told r) (now (out .exit))
-        ≡ fill (task g (now (triangles .entry)) (now («cauchy_kernels» .entry)) (now («elliptic_kernels» .entry)) «target_mass» «constant_density»)
+        ≡ fill (task g (now (s .entry)) (now (cauchy .entry)) (now (elliptic .entry)) target density)
         (length (now (floats .entry))) (now (out .entry)))
         × (early (told r) ≡ true → now (floats .exit) ≡ now (floats .entry)) ⌝ }
 {
@@ -127,37 +127,20 @@ pub fn build_mascon(
     if 256 < g {
         return Answer::Refused(Cause::GridOutside);
     }
-    if lists_wrong(
-        triangles,
-        cauchy_kernels,
-        elliptic_kernels,
-        target_mass,
-        constant_density,
-    ) {
+    if lists_wrong(s, cauchy, elliptic, target, density) {
         return Answer::Refused(Cause::ListWrong);
     }
-    if floats.len() < triangles.len() / 72 {
+    if floats.len() < s.len() / 72 {
         return Answer::Refused(Cause::ScratchShort);
     }
     if out.len() < 64 + 16 * (capacity_of(g) as usize) {
         return Answer::Refused(Cause::OutputShort);
     }
-    let bounds = bounds_of(triangles);
-    let frame = frame_of(bounds, g);
-    if box_flat(frame) {
+    let bounds = bounds_of(s);
+    let f = frame_of(bounds, g);
+    if box_flat(f) {
         return Answer::Refused(Cause::BoxFlat);
     }
     let b = padded(bounds);
-    fill_frame(
-        triangles,
-        cauchy_kernels,
-        elliptic_kernels,
-        b,
-        frame,
-        g,
-        target_mass,
-        constant_density,
-        floats,
-        out,
-    )
+    fill_frame(s, cauchy, elliptic, b, f, g, target, density, floats, out)
 }

@@ -11,14 +11,14 @@ returns : tie.Need-returns
 returns c =
     let start = c .before .before .before .before .before .before in
     let args = start .args in
-    way-none (args .g) _ _ _ (args .target-mass) (args .constant-density) _ _ (c .if1 .taken)
+    way-none (args .g) _ _ _ (args .target) (args .density) _ _ (c .if1 .taken)
 
 returns-2 : tie.Need-returns-2
 returns-2 c =
     let some = c .before in
     let start = some .before .before .before .before .before .before in
     let args = start .args in
-    way-fine (args .g) _ _ _ (args .target-mass) (args .constant-density) _ _ (some .if1 .left) (c .if2 .taken)
+    way-fine (args .g) _ _ _ (args .target) (args .density) _ _ (some .if1 .left) (c .if2 .taken)
 
 lists-wrong-requires : tie.Need-lists-wrong-requires
 lists-wrong-requires c κs = search needs
@@ -30,7 +30,7 @@ returns-3 c =
     let some = few .before in
     let start = some .before .before .before .before .before .before in
     let args = start .args in
-    way-17 (args .g) _ _ _ (args .target-mass) (args .constant-density) _ _ (some .if1 .left) (few .if2 .left) (judged .lists-wrong .ensures) (c .if3 .taken)
+    way-17 (args .g) _ _ _ (args .target) (args .density) _ _ (some .if1 .left) (few .if2 .left) (judged .lists-wrong .ensures) (c .if3 .taken)
 
 returns-4 : tie.Need-returns-4
 returns-4 c =
@@ -40,7 +40,7 @@ returns-4 c =
     let some = few .before in
     let start = some .before .before .before .before .before .before in
     let args = start .args in
-    way-8 (args .g) _ _ _ (args .target-mass) (args .constant-density) _ _ (some .if1 .left) (few .if2 .left) (judged .lists-wrong .ensures) (right .if3 .left) (c .if4 .taken)
+    way-8 (args .g) _ _ _ (args .target) (args .density) _ _ (some .if1 .left) (few .if2 .left) (judged .lists-wrong .ensures) (right .if3 .left) (c .if4 .taken)
 
 capacity-of-requires : tie.Need-capacity-of-requires
 capacity-of-requires c κs = search needs
@@ -64,7 +64,7 @@ returns-5 c =
     let some = few .before in
     let start = some .before .before .before .before .before .before in
     let args = start .args in
-    way-9 (args .g) _ _ _ (args .target-mass) (args .constant-density) _ _ (some .if1 .left) (few .if2 .left) (judged .lists-wrong .ensures) (right .if3 .left) (scratch .if4 .left) _ (sized .capacity-of .ensures) (c .if5 .taken)
+    way-9 (args .g) _ _ _ (args .target) (args .density) _ _ (some .if1 .left) (few .if2 .left) (judged .lists-wrong .ensures) (right .if3 .left) (scratch .if4 .left) _ (sized .capacity-of .ensures) (c .if5 .taken)
 
 bounds-of-requires : tie.Need-bounds-of-requires
 bounds-of-requires c κs = search needs
@@ -89,7 +89,7 @@ returns-6 c =
     let some = few .before in
     let start = some .before .before .before .before .before .before in
     let args = start .args in
-    way-19 (args .g) _ _ _ (args .target-mass) (args .constant-density) _ _ (some .if1 .left) (few .if2 .left) (judged .lists-wrong .ensures) (right .if3 .left) (scratch .if4 .left) _ (sized .capacity-of .ensures)
+    way-19 (args .g) _ _ _ (args .target) (args .density) _ _ (some .if1 .left) (few .if2 .left) (judged .lists-wrong .ensures) (right .if3 .left) (scratch .if4 .left) _ (sized .capacity-of .ensures)
     (room .if5 .left) _ (framed .frame-of .ensures ∙ ap (λ b. frame b (args .g)) (bounded .bounds-of .ensures)) (box .box-flat .ensures)
     (c .if6 .taken)
 
@@ -111,7 +111,7 @@ fill-frame-requires c κs =
     let some = few .before in
     let start = some .before .before .before .before .before .before in
     let args = start .args in (
-      ready (args .g) _ _ _ (args .target-mass) (args .constant-density) _ _ (some .if1 .left) (few .if2 .left) (judged .lists-wrong .ensures) (right .if3 .left) (scratch .if4 .left) _ (sized .capacity-of .ensures) (room .if5 .left),
+      ready (args .g) _ _ _ (args .target) (args .density) _ _ (some .if1 .left) (few .if2 .left) (judged .lists-wrong .ensures) (right .if3 .left) (scratch .if4 .left) _ (sized .capacity-of .ensures) (room .if5 .left),
       (outward .padded .ensures ∙ ap padded (bounded .bounds-of .ensures), framed .frame-of .ensures ∙ ap (λ b. frame b (args .g)) (bounded .bounds-of .ensures)),
     )
 
@@ -138,7 +138,7 @@ returns-7 c =
     let some = few .before in
     let start = some .before .before .before .before .before .before in
     let args = start .args in
-    way-filled (args .g) _ _ _ (args .target-mass) (args .constant-density) _ _ (some .if1 .left) (few .if2 .left) (judged .lists-wrong .ensures) (right .if3 .left) (scratch .if4 .left) _ (sized .capacity-of .ensures)
+    way-filled (args .g) _ _ _ (args .target) (args .density) _ _ (some .if1 .left) (few .if2 .left) (judged .lists-wrong .ensures) (right .if3 .left) (scratch .if4 .left) _ (sized .capacity-of .ensures)
     (room .if5 .left) _ (framed .frame-of .ensures ∙ ap (λ b. frame b (args .g)) (bounded .bounds-of .ensures)) (box .box-flat .ensures)
     (wide .if6 .left) _ _ left (done .fill-frame .ensures)
 
