@@ -10,16 +10,8 @@ use Rattle.rym1.specs.File.{fileCause, workCause}
 use Rattle.rym1.specs.Journal.{journalCause}
 use Rattle.rym1.specs.Edits.{buffersCause}
 use Rattle.rym1.proofs.Causes.{first-zero-l, first-zero-r, first-found, first-none}
-use Rattle.points.proofs.Refused.{refused, not-refused}
+use Rattle.points.proofs.Refused.{some-found}
 use Rattle.edits.specs.Calls.{Sound}
-
--- nothing is found, by what `is_refused` answers
-pub none-found : (k : ℕ) (cause : Cause) {r : Bool} → number cause ≡ k → r ≡ not (eqb (number cause) 0) → r ≡ false → k ≡ 0
-none-found k cause e t h = sym e ∙ not-refused (number cause) t h
-
--- something is
-pub some-found : (k : ℕ) (cause : Cause) {r : Bool} → number cause ≡ k → r ≡ not (eqb (number cause) 0) → r ≡ true → 0 < k
-some-found k cause e t h = rw e at (refused (number cause) t h)
 
 module _ (f j : List ℕ) where
   pub file-refused : (cause : Cause) {r : Bool} → number cause ≡ fileCause f → r ≡ not (eqb (number cause) 0) → r ≡ true → number cause ≡ buffersCause f j

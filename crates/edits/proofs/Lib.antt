@@ -1,5 +1,3 @@
-pub mod Moving
-pub mod Finding
 pub mod Counts
 pub mod Judging
 pub mod Rooms

@@ -22,8 +22,8 @@ use Rattle.rym1.proofs.Accepted.{Inside, accepted, sound}
 use Rattle.rym1.proofs.Points.{length-point}
 use Rattle.rym1.proofs.Cells.{point-of-cell}
 use Rattle.points.proofs.Refused.{refused}
-use Rattle.edits.specs.declared.find.Spot.the-variants.{Held, Vacant}
-use Rattle.edits.specs.Spotted.{Spotted}
+use Rattle.working.specs.declared.find.Spot.the-variants.{Held, Vacant}
+use Rattle.working.specs.Spotted.{Spotted}
 use Rattle.edits.specs.Calls.{Sound, putRest}
 use Rattle.edits.proofs.Rooms.{room-full, room-left, room-more}
 use Rattle.edits.proofs.Counts.{count-few, count-replaced, count-inserted}

@@ -17,11 +17,11 @@ use Rattle.rym1.specs.Journal.{pushCause, entryWords, pushed}
 use Rattle.rym1.specs.Edits.{removed, changed, change, buffersCause, isVacant, edited, removeWords, removeCause, remove}
 use Rattle.rym1.proofs.Causes.{first-found, first-none, refuse-found}
 use Rattle.rym1.proofs.Accepted.{accepted}
-use Rattle.edits.specs.declared.find.Spot.the-variants.{Held, Vacant}
-use Rattle.edits.specs.Spotted.{Spotted}
+use Rattle.working.specs.declared.find.Spot.the-variants.{Held, Vacant}
+use Rattle.working.specs.Spotted.{Spotted}
 use Rattle.edits.specs.Calls.{Sound, removeRest}
 use Rattle.edits.proofs.Counts.{count-few, count-removed}
-use Rattle.edits.proofs.Judging.{some-found}
+use Rattle.points.proofs.Refused.{some-found}
 
 -- ---- past 6
 

@@ -21,11 +21,11 @@ use Rattle.rym1.specs.Edits.{lower, inserted, removed, changed, change, buffers
 use Rattle.rym1.proofs.Causes.{first-found, refuse-found}
 use Rattle.rym1.proofs.Accepted.{accepted}
 use Rattle.rym1.proofs.Points.{length-point}
-use Rattle.edits.specs.declared.find.Spot.the-variants.{Held, Vacant}
-use Rattle.edits.specs.Spotted.{Spotted}
+use Rattle.working.specs.declared.find.Spot.the-variants.{Held, Vacant}
+use Rattle.working.specs.Spotted.{Spotted}
 use Rattle.edits.specs.Calls.{Sound, Last, entryWrong, undoRest}
 use Rattle.edits.proofs.Counts.{count-few, count-replaced, count-inserted, count-removed}
-use Rattle.edits.proofs.Judging.{some-found}
+use Rattle.points.proofs.Refused.{some-found}
 use Rattle.edits.proofs.Rooms.{room-full, room-left, room-more}
 
 -- ---- a kind is the top two bits of a word

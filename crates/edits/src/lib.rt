@@ -1,8 +1,4 @@
 // Edits of a file in working form: put, remove, undo.
-pub mod find;
-pub mod journal;
-pub mod moves;
-
 ghost use mathlib.Core.Path.{_≡_};
 ghost use mathlib.Core.Bool.{false};
 ghost use Prim.Native.Nat.{_+_, _*_, _%_, _≤_, _<_};
@@ -14,25 +10,21 @@ ghost use Rattle.rym1.specs.Open.{both};
 ghost use Rattle.rym1.specs.Journal.{pushCause};
 ghost use Rattle.rym1.specs.Edits.{buffersCause};
 ghost use Rattle.rym1.specs.Edits as edits;
-ghost use Rattle.edits.specs.declared.find.Spot.the-variants.{Held, Vacant};
-ghost use Rattle.edits.specs.Spotted.{Spotted};
+ghost use Rattle.working.specs.declared.find.Spot.the-variants.{Held, Vacant};
+ghost use Rattle.working.specs.Spotted.{Spotted};
 ghost use Rattle.edits.specs.Calls.{Sound, Last, entryWrong, putRest, removeRest, undoRest};
-use find::Spot;
-use find::find_cell;
 use journal::entries;
 use journal::journal_cause;
 use journal::pop;
 use journal::push;
 use journal::push_cause;
-use moves::insert_point;
-use moves::remove_point;
+use lookup::cells;
 use points::judge::is_refused;
 use points::judge::mass_cause;
 use points::judge::parse_mascon_bytes;
 use points::judge::place_cause;
 use points::judge::point_cause;
 use points::judge::work_cause;
-use points::lookup::cells;
 use points::records::cell_number;
 use points::records::cell_point;
 use points::records::count;
@@ -41,6 +33,10 @@ use points::records::out_point;
 use rym1::Answer;
 use rym1::Cause;
 use rym1::Point;
+use working::find::Spot;
+use working::find::find_cell;
+use working::moves::insert_point;
+use working::moves::remove_point;
 
 // 1 to 7, 10, 11.
 fn buffers_cause(file: &[u8], journal: &[u32]) -> Cause

@@ -1,7 +1,7 @@
 -- A filled file. Where fill answers a length, what it leaves is accepted by a reader and is in working form; its grid, count and records are the task's. Assumes nothing.
 use Prim.Native.Nat.{ℕ, zero, suc, _+_, _*_, _≤_, _<_}
 use mathlib.Core.Path.{_≡_, refl, sym, ap, _∙_}
-use mathlib.Core.Bool.{Bool, true, false, cond, not, _&&_, _||_}
+use mathlib.Core.Bool.{Bool, true, false, cond, _&&_, _||_}
 use mathlib.Core.List.{List, [], _∷_, _++_, append-assoc}
 use native.Mathlib.Omega.{arith}
 use lib.ListN.{length, getD, drop, replicate, length-append}
@@ -9,7 +9,7 @@ use lib.Dec.{eqb, ltb}
 use lib.Ieee.{Float, binary32, ofBits, lt}
 use borrow.Author.Tests.{ltb-false, eqb-false, not-false, le-leb}
 use Rattle.rym1.specs.Bytes.{word, le, wordsBytes, splice}
-use Rattle.rym1.specs.Causes.{when, first, Outcome, outcome, refuse}
+use Rattle.rym1.specs.Causes.{when, Outcome, outcome, refuse}
 use Rattle.rym1.specs.File.{grid, count, density, volume, scale, boxMin, boxMax, pointsAt, points, pointsBytes, size, cube, finite, allFinite, headerFloats, below, pointsCause, fileCause, working, workCause}
 use Rattle.rym1.specs.Cells.{cellPoint}
 use Rattle.rym1.proofs.Bytes.{length-le, length-splice, length-words, word-append-right, word-le-fits}

@@ -1,5 +1,5 @@
 -- The crossings of a ray are above 0, so sorted they ascend. Assumes nothing.
-use Prim.Native.Nat.{ℕ, _*_, _<_}
+use Prim.Native.Nat.{_*_, _<_}
 use mathlib.Core.Path.{_≡_, refl, ap, _∙_}
 use mathlib.Core.Logic.{∥∥₁-elim}
 use mathlib.Core.Bool.{Bool, true, false, cond, not, _&&_, _||_, Bool-set}

@@ -13,7 +13,6 @@ use Rattle.float.specs.Number.{abs}
 use Rattle.rym1.specs.Bytes.{word64}
 use Rattle.rym1.proofs.Causes.{or-false-r, and-true-l, and-true-r}
 use Rattle.filling.specs.declared.Triangle.{Triangle}
-use Rattle.filling.specs.declared.Kernel.{Kernel}
 use Rattle.filling.specs.Lists.{float, vec3, triangle, trianglesAt, mesh, kernel, kernelsAt}
 use Rattle.filling.specs.Lists.{coordinateLimit, upTo, vectorUpTo, goodTriangle, goodTriangles, meshWrong}
 

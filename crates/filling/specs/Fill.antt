@@ -1,5 +1,5 @@
 -- The point file that a mesh is filled to (build_mascon), and what fill answers and leaves in its output. Definitions only.
-use Prim.Native.Nat.{ℕ, zero, suc, _+_, _*_, _/_}
+use Prim.Native.Nat.{ℕ, zero, suc, _+_, _/_}
 use mathlib.Core.Bool.{Bool, true, cond, not, _&&_, _||_}
 use mathlib.Core.List.{List, [], _∷_, _++_}
 use lib.ListN.{length, replicate}
@@ -14,7 +14,6 @@ use Rattle.rym1.specs.File.{size, cube, finite, allFinite, pointsBytes}
 use Rattle.rym1.specs.Cells.{cellPoint}
 use Rattle.filling.specs.declared.Triangle.{Triangle}
 use Rattle.filling.specs.declared.Kernel.{Kernel}
-use Rattle.filling.specs.declared.Bounds.{Bounds}
 use Rattle.filling.specs.declared.Frame.{Frame}
 use Rattle.filling.specs.Vector.{plus, times, over}
 use Rattle.filling.specs.Lists.{mesh, kernels, massLimit, upTo, meshWrong, kernelsWrong}

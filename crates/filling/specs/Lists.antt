@@ -7,7 +7,6 @@ use lib.Dec.{eqb, ltb}
 use lib.Ieee.{Float, binary64, ofBits, le}
 use Rattle.float.specs.Number.{zero64, abs}
 use Rattle.rym1.specs.Bytes.{word64}
-use Rattle.rym1.specs.Causes.{when}
 use Rattle.filling.specs.declared.Vec3.{Vec3}
 use Rattle.filling.specs.declared.Triangle.{Triangle}
 use Rattle.filling.specs.declared.Kernel.{Kernel}

@@ -204,9 +204,6 @@ module _ (f : Format) (e fr : ℕ) (P : hid f ≡ 2 ^ fr) (O : ones f ≡ full e
       (sym (ap (λ (y : ℕ). ofFields f s (b % y / hid f) (b % hid f)) U ∙ ap (λ (y : ℕ). ofFields f s (b % 2 ^ (e + fr) / y) (b % y)) P ∙ ap (λ (y : ℕ). ofFields f s y (b % 2 ^ fr)) (field b e fr)))
       (fields-value s (expField e fr b) (fracField fr b) n)
 
-pub pattern-32 : (b : ℕ) → (expField 8 23 b ≡ full 8 → ⊥) → HasValue (ofBits binary32 b) (leb (2 ^ 31) b) (magnitude 8 23 b) (2 ^ lowest 8 23)
-pattern-32 b n = pattern-value binary32 8 23 refl refl refl b n
-
 pub pattern-64 : (b : ℕ) → (expField 11 52 b ≡ full 11 → ⊥) → HasValue (ofBits binary64 b) (leb (2 ^ 63) b) (magnitude 11 52 b) (2 ^ lowest 11 52)
 pattern-64 b n = pattern-value binary64 11 52 refl refl refl b n
 

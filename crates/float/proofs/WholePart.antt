@@ -29,11 +29,6 @@ same-test true false p q = absurd (p tt)
 same-test false true p q = absurd (q tt)
 same-test false false p q = refl
 
-or-not : (a b : Bool) → T (not a) → T (not b) → (a || b) ≡ false
-or-not true b p q = absurd p
-or-not false true p q = absurd q
-or-not false false p q = refl
-
 either : (p q : Bool) → T (p || (q && true)) → T p ⊎ T q
 either true q h = inl tt
 either false true h = inr tt

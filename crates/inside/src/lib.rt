@@ -1,5 +1,4 @@
 // Whether a point lies inside a mesh (inside.rs): a scan with the accelerator's candidates, in place of its cell lists and stamps.
-pub mod accelerator;
 pub mod crossings;
 
 ghost use mathlib.Core.Path.{_≡_};

@@ -78,7 +78,7 @@ pub extern "C" fn mascon_open(
         ≡ openFile (now (file .entry)) (length (now (scratch .entry))) (now (out .entry)) (now (journal .entry)))
         × (r ≤ 8 → now (scratch .exit) ≡ now (scratch .entry)) ⌝ }
 {
-    answer_number(points::open(file, scratch, out, journal))
+    answer_number(opening::open(file, scratch, out, journal))
 }
 
 // The tree of a point file into `out`.

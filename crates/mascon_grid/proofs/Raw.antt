@@ -25,7 +25,7 @@ use Rattle.filling.specs.Vector.{times}
 use Rattle.filling.specs.Lists.{kernels}
 use Rattle.filling.specs.Inside.{isInside, testBox}
 use Rattle.filling.specs.Frame.{middle}
-use Rattle.filling.specs.Fill.{Task, narrowed, product, innerFrom, inner, massOf, frameOf, scaleBy, writtenMass, recordOf, recordsOf}
+use Rattle.filling.specs.Fill.{Task, narrowed, innerFrom, inner, massOf, frameOf, scaleBy, writtenMass, recordOf, recordsOf}
 use Rattle.visit.specs.Visited.{rawPoint, rawPoints}
 use Rattle.mascon_grid.specs.Scaled.{scaledPoint, scaledPoints}
 use Rattle.visit.proofs.Visiting.{length-raw-points}

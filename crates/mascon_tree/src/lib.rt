@@ -5,7 +5,7 @@ ghost use mathlib.Core.Path.{_≡_};
 ghost use mathlib.Core.Bool.{true};
 ghost use Prim.Native.Nat.{_+_, _*_, _≤_, _<_};
 ghost use lib.ListN.{length};
-ghost use Rattle.rym1.specs.Bytes.{splice, wordsBytes};
+ghost use Rattle.rym1.specs.Bytes.{splice};
 ghost use Rattle.rym1.specs.Cells.{look};
 ghost use Rattle.rtm1.specs.Boxes.{Within};
 ghost use Rattle.rtm1.specs.Visit.{nothing, visit};
@@ -17,12 +17,12 @@ ghost use Rattle.mascon_tree.specs.Written.{Space, Written, Building};
 use boxes::halves;
 use boxes::kind_of;
 use boxes::whole;
+use lookup::fill_lookup;
 use node::frame_of;
 use node::link;
 use node::out_node;
 use points::judge::is_refused;
 use points::judge::parse_mascon_bytes;
-use points::lookup::fill_lookup;
 use points::records::grid;
 use rtm1::Built;
 use rtm1::Cells;
@@ -236,7 +236,7 @@ pub fn build_mascon_tree(file: &[u8], scratch: &mut [u32], out: &mut [u8]) -> Bu
         return Built::Refused(cause);
     }
     let g = grid(file);
-    if scratch.len() < points::lookup::cells(g) {
+    if scratch.len() < lookup::cells(g) {
         return Built::Refused(Cause::ScratchShort);
     }
     fill_lookup(scratch, file);

@@ -61,6 +61,13 @@ refused k e t = omega (arith, eqb-false k 0 (not-true (eqb k 0) (sym e ∙ t)))
 pub not-refused : (k : ℕ) {r : Bool} → r ≡ not (eqb k 0) → r ≡ false → k ≡ 0
 not-refused k e t = eqb-true k 0 (not-false (eqb k 0) (sym e ∙ t))
 
+-- a definition's cause k, by the code's and what `is_refused` answers of that: nothing is found, or something is
+pub none-found : (k : ℕ) (cause : Cause) {r : Bool} → number cause ≡ k → r ≡ not (eqb (number cause) 0) → r ≡ false → k ≡ 0
+none-found k cause e t h = sym e ∙ not-refused (number cause) t h
+
+pub some-found : (k : ℕ) (cause : Cause) {r : Bool} → number cause ≡ k → r ≡ not (eqb (number cause) 0) → r ≡ true → 0 < k
+some-found k cause e t h = rw e at (refused (number cause) t h)
+
 -- ---- the header's floats
 
 and-three : (p q r s : Bool) → (p && (q && (r && s))) ≡ ((p && (q && r)) && s)

@@ -1,12 +1,12 @@
 // Why a point file is refused: causes 1 to 7, and 10.
 ghost use mathlib.Core.Path.{_≡_};
 ghost use Prim.Native.Nat.{_+_, _*_, _≤_, _<_};
-ghost use mathlib.Core.Bool.{_&&_, _||_, not};
+ghost use mathlib.Core.Bool.{_&&_, not};
 ghost use lib.ListN.{length};
 ghost use lib.Dec.{eqb};
 ghost use Rattle.rym1.specs.Bytes.{word32};
 ghost use Rattle.rym1.specs.Causes.{number};
-ghost use Rattle.rym1.specs.File.{grid, count, pointsAt, points, size, finite, allFinite, headerFloats, below};
+ghost use Rattle.rym1.specs.File.{grid, count, pointsAt, size, finite, allFinite, headerFloats, below};
 ghost use Rattle.rym1.specs.File.{placeCause, massCause, pointCause, pointsCause, headerCause, fileCause, working, workCause};
 use crate::records::cell_number;
 use crate::records::count;

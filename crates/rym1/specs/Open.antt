@@ -6,7 +6,7 @@ use lib.Dec.{eqb, ltb}
 use Rattle.rym1.specs.declared.Point.{Point}
 use Rattle.rym1.specs.Bytes.{le32, splice}
 use Rattle.rym1.specs.Causes.{when, first, Outcome, outcome, refuse}
-use Rattle.rym1.specs.File.{grid, count, pointsBytes, size, cube, fileCause}
+use Rattle.rym1.specs.File.{grid, pointsBytes, size, cube, fileCause}
 use Rattle.rym1.specs.Cells.{massMap, records}
 
 -- a file, or a header, with n for its count

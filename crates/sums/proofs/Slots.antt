@@ -10,7 +10,7 @@ use Rattle.rym1.specs.File.{grid, count, size, pointAt, points, fileCause}
 use Rattle.rym1.specs.Cells.{Masses, Slot, vacant, held, look, massesOf}
 use Rattle.rym1.proofs.Accepted.{accepted}
 use Rattle.rym1.proofs.Cells.{HeldAt, held-at}
-use Rattle.points.specs.Lookup.{slotWord}
+use Rattle.lookup.specs.Lookup.{slotWord}
 use Rattle.rtm1.specs.declared.Sums.{Sums}
 use Rattle.rtm1.specs.Visit.{Placed, here, moved, shifted, with, total}
 use Rattle.sums.specs.Ready.{Ready}

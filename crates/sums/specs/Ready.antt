@@ -5,7 +5,7 @@ use mathlib.Core.List.{List}
 use lib.ListN.{length}
 use Rattle.rym1.specs.Bytes.{splice, wordsBytes}
 use Rattle.rym1.specs.File.{grid, fileCause}
-use Rattle.points.specs.Lookup.{Looked}
+use Rattle.lookup.specs.Lookup.{Looked}
 use Rattle.rtm1.specs.Visit.{Placed}
 use Rattle.rtm1.specs.Tree.{indices}
 

@@ -11,7 +11,7 @@ ghost use Rattle.rym1.specs.Bytes.{word32};
 ghost use Rattle.rym1.specs.File.{cell};
 ghost use Rattle.rym1.specs.Cells.{look};
 ghost use Rattle.rym1.proofs.Accepted.{Inside};
-ghost use Rattle.points.specs.Lookup.{slotWord};
+ghost use Rattle.lookup.specs.Lookup.{slotWord};
 ghost use Rattle.rtm1.specs.Boxes.{Within};
 ghost use Rattle.rtm1.specs.Visit.{moved, shifted, with, total, nothing, pointIn, row, plane, visit};
 ghost use Rattle.rtm1.specs.Tree.{sumsOf};

@@ -25,7 +25,7 @@ fn is_same_open(
 {
     copy_bytes(out, case, 1088);
     copy_words(journal, case, 3136);
-    let answer = answer_number(points::open(&case[64..64 + file], scratch, out, journal));
+    let answer = answer_number(opening::open(&case[64..64 + file], scratch, out, journal));
     if answer != binary::u32_at(case, 16) as u64 {
         return false;
     }

@@ -1,5 +1,5 @@
 -- What the visit of the cells finds and leaves behind: the records before their scaling. Definitions only.
-use Prim.Native.Nat.{ℕ, _+_, _*_, _/_, _≤_, _<_}
+use Prim.Native.Nat.{ℕ, _/_, _≤_, _<_}
 use mathlib.Core.Path.{_≡_}
 use mathlib.Core.Bool.{true, cond}
 use mathlib.Core.List.{List, [], _∷_}
@@ -12,10 +12,9 @@ use Rattle.rym1.specs.Bytes.{splice}
 use Rattle.rym1.specs.File.{size, pointsBytes}
 use Rattle.rym1.specs.Cells.{cellPoint}
 use Rattle.filling.specs.declared.Kernel.{Kernel}
-use Rattle.filling.specs.declared.Triangle.{Triangle}
 use Rattle.filling.specs.declared.Frame.{Frame}
 use Rattle.filling.specs.Lists.{mesh, goodTriangles}
-use Rattle.filling.specs.Fill.{narrowed, capacity, inner, massOf, rawFrom}
+use Rattle.filling.specs.Fill.{narrowed, capacity, massOf, rawFrom}
 use Rattle.visit.specs.declared.Found.{Found}
 use Rattle.visit.specs.declared.Visit.{Visit}
 use Rattle.visit.specs.declared.Visit.the-variants.{Done, Full}

@@ -1,7 +1,7 @@
 -- `binary::clear` meets its contract: the loop's invariant: the first i bytes are 0, and the rest is as it was (`borrow.Author.Fill`).
 -- Assumes nothing.
 use Prim.Native.Nat.{ℕ, _<_, _≤_, _-_}
-use mathlib.Core.Path.{ap, _≡_, refl, sym, _∙_}
+use mathlib.Core.Path.{ap, _≡_, refl, _∙_}
 use mathlib.Core.List.{List, _++_, append-nil}
 use native.Mathlib.Omega.{arith}
 use lib.ListN.{set, length, drop, replicate, length-set}

@@ -1,5 +1,6 @@
 -- `edits::buffers_cause` meets its contract: the first cause that is found. Assumes nothing.
-use Rattle.edits.proofs.Judging.{none-found, file-refused, form-refused, journal-judged}
+use Rattle.points.proofs.Refused.{none-found}
+use Rattle.edits.proofs.Judging.{file-refused, form-refused, journal-judged}
 use borrow.Author.Needs.{needs}
 use Rattle.edits.proofs.buffers_cause.Statement.{statement}
 use Rattle.edits.proofs.buffers_cause.Tie as tie

@@ -1,6 +1,7 @@
 -- `edits::put` meets its contract: each way out is its law. Assumes nothing.
 use Rattle.rym1.proofs.Accepted.{accepted}
-use Rattle.edits.proofs.Judging.{none-found, buffers-sound}
+use Rattle.points.proofs.Refused.{none-found}
+use Rattle.edits.proofs.Judging.{buffers-sound}
 use Rattle.edits.proofs.Putting.{way-buffers, way-own, way-full, way-put, own-inside, own-cell}
 use borrow.Author.Needs.{needs}
 use Rattle.edits.proofs.put.Statement.{statement}

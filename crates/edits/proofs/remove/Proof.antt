@@ -6,7 +6,8 @@ use Rattle.rym1.specs.File.{grid, placeCause}
 use Rattle.rym1.specs.Edits.{buffersCause}
 use Rattle.rym1.proofs.Accepted.{accepted, inside}
 use Rattle.edits.specs.Calls.{Sound}
-use Rattle.edits.proofs.Judging.{none-found, buffers-sound}
+use Rattle.points.proofs.Refused.{none-found}
+use Rattle.edits.proofs.Judging.{buffers-sound}
 use Rattle.edits.proofs.Removing.{place-judged, way-buffers, way-place, way-rest}
 use borrow.Author.Needs.{needs}
 use Rattle.edits.proofs.remove.Statement.{statement}

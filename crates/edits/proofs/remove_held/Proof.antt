@@ -7,7 +7,7 @@ use Rattle.rym1.specs.File.{grid}
 use Rattle.rym1.specs.Journal.{pushCause}
 use Rattle.rym1.proofs.Accepted.{accepted}
 use Rattle.rym1.proofs.Cells.{cube-few}
-use Rattle.edits.proofs.Judging.{none-found}
+use Rattle.points.proofs.Refused.{none-found}
 use Rattle.edits.proofs.Rooms.{record-there}
 use Rattle.edits.proofs.Removing.{way-full, way-removed}
 use borrow.Author.Needs.{needs}

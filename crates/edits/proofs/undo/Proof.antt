@@ -6,7 +6,8 @@ use lib.ListN.{length}
 use Rattle.rym1.specs.Edits.{buffersCause}
 use Rattle.rym1.proofs.Journal.{accepted-journal}
 use Rattle.edits.specs.Calls.{Sound}
-use Rattle.edits.proofs.Judging.{none-found, buffers-sound}
+use Rattle.points.proofs.Refused.{none-found}
+use Rattle.edits.proofs.Judging.{buffers-sound}
 use Rattle.edits.proofs.Undoing.{last-read, way-buffers, way-none, way-rest}
 use borrow.Author.Needs.{needs}
 use Rattle.edits.proofs.undo.Statement.{statement}

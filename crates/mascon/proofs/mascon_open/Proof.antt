@@ -1,4 +1,4 @@
--- `mascon::mascon_open` meets its contract: `points::open`'s, its answer as a number. Assumes nothing.
+-- `mascon::mascon_open` meets its contract: `opening::open`'s, its answer as a number. Assumes nothing.
 use borrow.Author.Needs.{needs}
 use Rattle.mascon.proofs.mascon_open.Statement.{statement}
 use Rattle.mascon.proofs.mascon_open.Tie as tie

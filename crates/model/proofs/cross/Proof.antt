@@ -3,8 +3,6 @@ use mathlib.Core.Path.{refl}
 use Rattle.filling.specs.Vector.{cross}
 use Rattle.model.proofs.cross.Statement.{statement}
 use Rattle.model.proofs.cross.Tie as tie
-use Rattle.model.proofs.cross.Reads as reads
-use Rattle.model.proofs.cross.Lts as lts
 
 returns : tie.Need-returns
 unfolding cross

@@ -3,8 +3,6 @@ use mathlib.Core.Path.{refl}
 use Rattle.filling.specs.Vector.{dot}
 use Rattle.model.proofs.dot.Statement.{statement}
 use Rattle.model.proofs.dot.Tie as tie
-use Rattle.model.proofs.dot.Reads as reads
-use Rattle.model.proofs.dot.Lts as lts
 
 returns : tie.Need-returns
 unfolding dot

@@ -1,13 +1,9 @@
 -- `model::good_triangle` meets its contract. Assumes nothing.
-use mathlib.Core.Path.{sym, _∙_}
 use borrow.Author.Tests.{not-true, not-false}
 use Rattle.filling.specs.Lists.{goodTriangle}
 use borrow.Author.Needs.{needs}
 use Rattle.model.proofs.good_triangle.Statement.{statement}
 use Rattle.model.proofs.good_triangle.Tie as tie
-use Rattle.model.proofs.good_triangle.Reads as reads
-use Rattle.model.proofs.good_triangle.Lts as lts
-use Rattle.model.proofs.vector_up_to.Reads as vector-up-to-reads
 
 vector-up-to-requires : tie.Need-vector-up-to-requires
 vector-up-to-requires c κs = search needs

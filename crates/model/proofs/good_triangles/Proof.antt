@@ -1,7 +1,6 @@
 -- `model::good_triangles` meets its contract: the rest of the triangles decides as all do. Assumes nothing.
-use Prim.Native.Nat.{ℕ, _*_, _+_, _-_, _≤_}
-use mathlib.Core.Path.{_≡_, refl, sym, ap, _∙_}
-use mathlib.Core.Bool.{true, false}
+use Prim.Native.Nat.{ℕ, _*_, _-_, _≤_}
+use mathlib.Core.Path.{_≡_, ap}
 use native.Mathlib.Nat.{sub-zero}
 use native.Mathlib.Omega.{arith}
 use borrow.Author.Needs.{needs}

@@ -1,8 +1,6 @@
 -- `model::mesh_wrong` meets its contract: each return rewrites the definition's tests by those that led there. Assumes nothing.
-use Prim.Native.Nat.{ℕ}
 use mathlib.Core.Path.{ap}
 use mathlib.Core.Bool.{not}
-use lib.ListN.{length}
 use borrow.Author.Needs.{needs}
 use borrow.Author.Tests.{eq-eqb, ne-eqb, lt-ltb, le-ltb}
 use Rattle.filling.specs.Lists.{mesh, meshWrong}

@@ -3,8 +3,6 @@ use mathlib.Core.Path.{refl}
 use Rattle.filling.specs.Vector.{sub}
 use Rattle.model.proofs.sub.Statement.{statement}
 use Rattle.model.proofs.sub.Tie as tie
-use Rattle.model.proofs.sub.Reads as reads
-use Rattle.model.proofs.sub.Lts as lts
 
 returns : tie.Need-returns
 unfolding sub

@@ -3,9 +3,6 @@ use Rattle.filling.specs.Lists.{triangle}
 use borrow.Author.Needs.{needs}
 use Rattle.model.proofs.triangle_at.Statement.{statement}
 use Rattle.model.proofs.triangle_at.Tie as tie
-use Rattle.model.proofs.triangle_at.Reads as reads
-use Rattle.model.proofs.triangle_at.Lts as lts
-use Rattle.model.proofs.vec3_at.Reads as vec3-at-reads
 
 vec3-at-requires : tie.Need-vec3-at-requires
 vec3-at-requires c κs = search needs

@@ -5,9 +5,6 @@ use Rattle.filling.specs.Lists.{upTo}
 use borrow.Author.Needs.{needs}
 use Rattle.model.proofs.up_to.Statement.{statement}
 use Rattle.model.proofs.up_to.Tie as tie
-use Rattle.model.proofs.up_to.Reads as reads
-use Rattle.model.proofs.up_to.Lts as lts
-use Rattle.float.proofs.number.abs.Reads as abs-reads
 
 abs-requires : tie.Need-abs-requires
 abs-requires c κs = search needs

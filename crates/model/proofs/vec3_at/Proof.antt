@@ -3,9 +3,6 @@ use Rattle.filling.specs.Lists.{vec3, float}
 use borrow.Author.Needs.{needs}
 use Rattle.model.proofs.vec3_at.Statement.{statement}
 use Rattle.model.proofs.vec3_at.Tie as tie
-use Rattle.model.proofs.vec3_at.Reads as reads
-use Rattle.model.proofs.vec3_at.Lts as lts
-use Rattle.binary.proofs.f64_at.Reads as f64-at-reads
 
 f64-at-requires : tie.Need-f64-at-requires
 f64-at-requires c κs = search needs

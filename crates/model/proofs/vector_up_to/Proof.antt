@@ -1,13 +1,9 @@
 -- `model::vector_up_to` meets its contract. Assumes nothing.
-use mathlib.Core.Path.{sym, _∙_}
 use borrow.Author.Tests.{not-true, not-false}
 use Rattle.filling.specs.Lists.{vectorUpTo}
 use borrow.Author.Needs.{needs}
 use Rattle.model.proofs.vector_up_to.Statement.{statement}
 use Rattle.model.proofs.vector_up_to.Tie as tie
-use Rattle.model.proofs.vector_up_to.Reads as reads
-use Rattle.model.proofs.vector_up_to.Lts as lts
-use Rattle.model.proofs.up_to.Reads as up-to-reads
 
 up-to-requires : tie.Need-up-to-requires
 up-to-requires c κs = search needs

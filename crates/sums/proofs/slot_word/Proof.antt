@@ -4,7 +4,7 @@ use mathlib.Core.Path.{ap, _∙_}
 use native.Mathlib.Omega.{arith}
 use Rattle.rym1.specs.File.{grid, cube}
 use Rattle.rym1.specs.Cells.{look}
-use Rattle.points.specs.Lookup.{slotWord}
+use Rattle.lookup.specs.Lookup.{slotWord}
 use Rattle.sums.proofs.Slots.{grid-few}
 use borrow.Author.Needs.{needs}
 use Rattle.sums.proofs.slot_word.Statement.{statement}

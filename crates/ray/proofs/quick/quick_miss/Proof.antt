@@ -10,10 +10,6 @@ use Rattle.ray.specs.Quick.{quickMiss}
 use borrow.Author.Needs.{needs}
 use Rattle.ray.proofs.quick.quick_miss.Statement.{statement}
 use Rattle.ray.proofs.quick.quick_miss.Tie as tie
-use Rattle.ray.proofs.quick.quick_miss.Reads as reads
-use Rattle.ray.proofs.quick.quick_miss.Lts as lts
-use Rattle.binary.proofs.number_at.Reads as number-at-reads
-use Rattle.float.proofs.number.abs.Reads as abs-reads
 
 add-b : tie.Need-add-b
 add-b c = search needs
