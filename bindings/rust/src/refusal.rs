@@ -73,7 +73,7 @@ refusals! {
     BadJournal = 11, "journal without words, with wrong top bits or count, or with entries missing",
         "the journal is damaged: go on from the model without it, undo is lost";
     EmptyCell = 12, "the cell is empty",
-        "there is nothing to remove: look at the cell with `get`, or at the model with `mascon draw`";
+        "there is nothing to remove: look at the cell with `Model::get`, or at the model with `mascon draw`";
     /// Seen at 2^24 entries, or where memory is short.
     JournalFull = 13, "journal full",
         "2^24 edits stand in the journal: save the model and call `forget_entries`, or move the file MODEL.journal away";

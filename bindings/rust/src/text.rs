@@ -1,7 +1,8 @@
 //! Meshes, kernels and edits as text, with the line of what is wrong.
 
+use crate::fill::{MAX_COORDINATE, MAX_KERNELS, MAX_SIGMA, MAX_TRIANGLES, MAX_WEIGHT};
 use crate::{Kernel, Model, Refusal, Triangle};
-use std::collections::HashMap;
+use std::collections::{HashMap, HashSet};
 use std::fmt;
 
 /// What is wrong in a text, and in which line, from 1.
@@ -29,6 +30,15 @@ fn wrong<T>(line: usize, why: impl Into<String>) -> Result<T, LineError> {
     Err(LineError { line, why })
 }
 
+/// The words of each line, with its number from 1; `#` begins a comment. A mark of the byte order before the first is no word.
+fn lines(text: &str) -> impl Iterator<Item = (usize, Vec<&str>)> {
+    let text = text.strip_prefix('\u{feff}').unwrap_or(text);
+    text.lines().enumerate().map(|(at, line)| {
+        let line = line.split('#').next().unwrap_or_default();
+        (at + 1, line.split_whitespace().collect())
+    })
+}
+
 /// A mesh read from text.
 #[derive(Clone, Debug)]
 pub struct Mesh {
@@ -36,7 +46,7 @@ pub struct Mesh {
     pub triangles: Vec<Triangle>,
     /// How many corners the text lists.
     pub vertices: usize,
-    /// How many edges do not belong to exactly two triangles: 0 of a closed mesh. A ray may slip through an open one.
+    /// How many edges belong to an odd number of triangles: 0 of a closed mesh. A ray may slip through an open one.
     pub open_edges: usize,
     /// Keywords that were passed over, each with its first line.
     pub ignored: Vec<(String, usize)>,
@@ -71,8 +81,71 @@ fn number(line: usize, word: &str) -> Result<f64, LineError> {
     }
 }
 
-/// Reads a mesh in Wavefront OBJ: `v` and `f` lines, `f` with 1/2/3 corners' forms and negative indices; `scale` multiplies every
-/// coordinate (1000 for a mesh in kilometres).
+/// What has been read of a mesh.
+#[derive(Default)]
+struct Reader {
+    corners: Vec<[f64; 3]>,
+    /// Each corner's place among the distinct ones, by `places`.
+    place_of: Vec<usize>,
+    places: HashMap<[u64; 3], usize>,
+    /// Edges that an odd number of triangles has.
+    open_edges: HashSet<[usize; 2]>,
+    triangles: Vec<Triangle>,
+}
+
+impl Reader {
+    fn corner(&mut self, line: usize, words: &[&str], scale: f64) -> Result<(), LineError> {
+        let Some(words) = words.get(..3) else {
+            let why = format!("a corner has x, y and z, here are {} numbers", words.len());
+            return wrong(line, why);
+        };
+        let mut corner = [0.0; 3];
+        for (x, word) in corner.iter_mut().zip(words) {
+            *x = number(line, word)? * scale;
+            if x.abs() > MAX_COORDINATE {
+                let why = format!("`{word}`: coordinates go up to 1e6 m, this is {x} m");
+                return wrong(line, why);
+            }
+        }
+        let next = self.places.len();
+        // 0 and -0 are one place.
+        let place = self.places.entry(corner.map(|x| (x + 0.0).to_bits()));
+        self.place_of.push(*place.or_insert(next));
+        self.corners.push(corner);
+        Ok(())
+    }
+
+    /// A face as a fan of triangles.
+    fn face(&mut self, line: usize, words: &[&str]) -> Result<(), LineError> {
+        if words.len() < 3 {
+            let why = format!("a face has three corners or more, here are {}", words.len());
+            return wrong(line, why);
+        }
+        let mut corners = Vec::with_capacity(words.len());
+        for word in words {
+            corners.push(index(line, word, self.corners.len())?);
+        }
+        for two in corners[1..].windows(2) {
+            let three = [corners[0], two[0], two[1]];
+            let [a, b, c] = three.map(|corner| self.corners[corner]);
+            self.triangles.push(Triangle { a, b, c });
+            let [a, b, c] = three.map(|corner| self.place_of[corner]);
+            for (from, to) in [(a, b), (b, c), (c, a)] {
+                let edge = [from.min(to), from.max(to)];
+                if from != to && !self.open_edges.insert(edge) {
+                    self.open_edges.remove(&edge);
+                }
+            }
+        }
+        if self.triangles.len() > MAX_TRIANGLES {
+            return wrong(line, "more than 2^20 triangles");
+        }
+        Ok(())
+    }
+}
+
+/// Reads a mesh in Wavefront OBJ: `v` and `f` lines, the corners of `f` as `1`, `1/2`, `1//3` or `1/2/3`, from 1 or, negative, from the
+/// last; `scale` multiplies every coordinate (1000 for a mesh in kilometres). A line that ends in `\` goes on in the next.
 ///
 /// ```
 /// use mascon::text::parse_obj;
@@ -86,104 +159,32 @@ fn number(line: usize, word: &str) -> Result<f64, LineError> {
 /// # Errors
 /// The first line that is wrong.
 pub fn parse_obj(text: &str, scale: f64) -> Result<Mesh, LineError> {
-    let mut vertices: Vec<[f64; 3]> = Vec::new();
-    let mut ids: HashMap<[u64; 3], usize> = HashMap::new();
-    let mut id_of: Vec<usize> = Vec::new();
-    let mut edges: HashMap<(usize, usize), usize> = HashMap::new();
-    let mut triangles = Vec::new();
+    let mut reader = Reader::default();
     let mut ignored: Vec<(String, usize)> = Vec::new();
-    let mut lines = text.lines().enumerate();
-    while let Some((at, first)) = lines.next() {
-        let line = at + 1;
-        let mut whole = first
-            .split('#')
-            .next()
-            .unwrap_or_default()
-            .trim_end()
-            .to_string();
-        while whole.ends_with('\\') {
-            whole.pop();
-            let Some((_, next)) = lines.next() else { break };
-            whole.push(' ');
-            whole.push_str(next.split('#').next().unwrap_or_default().trim_end());
+    let mut lines = lines(text);
+    while let Some((line, mut words)) = lines.next() {
+        while let Some(rest) = words.last().and_then(|word| word.strip_suffix('\\')) {
+            words.pop();
+            words.extend((!rest.is_empty()).then_some(rest));
+            let Some((_, more)) = lines.next() else { break };
+            words.extend(more);
         }
-        let mut words = whole.split_whitespace();
-        let Some(keyword) = words.next() else {
-            continue;
-        };
-        let words: Vec<&str> = words.collect();
-        match keyword {
-            "v" => {
-                if words.len() < 3 {
-                    return wrong(
-                        line,
-                        format!("a corner has x, y and z, here are {} numbers", words.len()),
-                    );
-                }
-                let mut corner = [0.0; 3];
-                for (axis, word) in words[..3].iter().enumerate() {
-                    corner[axis] = number(line, word)? * scale;
-                    if corner[axis].abs() > 1e6 {
-                        return wrong(
-                            line,
-                            format!(
-                                "`{word}`: coordinates go up to 1e6 m, this is {} m",
-                                corner[axis]
-                            ),
-                        );
-                    }
-                }
-                // 0 and -0 are one place.
-                let next = ids.len();
-                id_of.push(
-                    *ids.entry(corner.map(|x| (x + 0.0).to_bits()))
-                        .or_insert(next),
-                );
-                vertices.push(corner);
-            }
-            "f" => {
-                if words.len() < 3 {
-                    return wrong(
-                        line,
-                        format!("a face has three corners or more, here are {}", words.len()),
-                    );
-                }
-                let mut corners = Vec::with_capacity(words.len());
-                for word in words {
-                    corners.push(index(line, word, vertices.len())?);
-                }
-                for i in 1..corners.len() - 1 {
-                    let three = [corners[0], corners[i], corners[i + 1]];
-                    let [a, b, c] = three.map(|i| vertices[i]);
-                    triangles.push(Triangle { a, b, c });
-                    let three = three.map(|i| id_of[i]);
-                    for (i, j) in [(0, 1), (1, 2), (2, 0)] {
-                        let (i, j) = (three[i], three[j]);
-                        *edges.entry((i.min(j), i.max(j))).or_default() += 1;
-                    }
-                }
-                if triangles.len() > 1 << 20 {
-                    return wrong(line, "more than 2^20 triangles");
-                }
-            }
-            other => {
-                if !PASSED_OVER.contains(&other) && !ignored.iter().any(|(word, _)| word == other) {
-                    ignored.push((other.to_string(), line));
-                }
-            }
+        match words.split_first() {
+            None => {}
+            Some((&"v", words)) => reader.corner(line, words, scale)?,
+            Some((&"f", words)) => reader.face(line, words)?,
+            Some((other, _)) if PASSED_OVER.contains(other) => {}
+            Some((&other, _)) if ignored.iter().any(|(word, _)| word == other) => {}
+            Some((&other, _)) => ignored.push((other.to_string(), line)),
         }
     }
-    if triangles.is_empty() {
+    if reader.triangles.is_empty() {
         return wrong(0, "no face (`f` line) in it");
     }
-    let open_edges = edges
-        .iter()
-        .filter(|&(&(a, b), &count)| a != b && count != 2)
-        .count();
     Ok(Mesh {
-        triangles,
-        vertices: vertices.len(),
-        open_edges,
+        triangles: reader.triangles,
+        vertices: reader.corners.len(),
+        open_edges: reader.open_edges.len(),
         ignored,
     })
 }
@@ -229,7 +230,7 @@ pub fn write_obj(triangles: &[Triangle]) -> String {
     corners + &faces
 }
 
-/// Reads a list of kernels: `x y z sigma w` a line, metres and 1/metre; `#` begins a comment.
+/// Reads a list of kernels: `x y z sigma w` a line, in metres, 1/metre and kg/m³; `#` begins a comment.
 ///
 /// ```
 /// let kernels = mascon::text::parse_kernels("# body\n-300 0 0  0.002 2100\n")?;
@@ -241,50 +242,42 @@ pub fn write_obj(triangles: &[Triangle]) -> String {
 /// The first line that is wrong.
 pub fn parse_kernels(text: &str) -> Result<Vec<Kernel>, LineError> {
     let mut kernels = Vec::new();
-    for (at, line) in text.lines().enumerate() {
-        let words: Vec<&str> = line
-            .split('#')
-            .next()
-            .unwrap_or_default()
-            .split_whitespace()
-            .collect();
-        let line = at + 1;
+    for (line, words) in lines(text) {
         if words.is_empty() {
             continue;
         }
-        if words.len() != 5 {
-            return wrong(
-                line,
-                format!(
-                    "a kernel is `x y z sigma w`, here are {} words",
-                    words.len()
-                ),
-            );
-        }
-        let mut numbers = [0.0; 5];
-        for (place, word) in numbers.iter_mut().zip(&words) {
-            *place = number(line, word)?;
-        }
-        let [x, y, z, sigma, w] = numbers;
-        if [x, y, z].iter().any(|x| x.abs() > 1e6) {
-            return wrong(line, "a centre's coordinates go up to 1e6 m");
-        }
-        if !(0.0..=1e6).contains(&sigma) {
-            return wrong(line, format!("sigma is {sigma}, it goes from 0 to 1e6"));
-        }
-        if w.abs() > 1e30 {
-            return wrong(line, format!("w is {w}, it goes up to 1e30"));
-        }
-        kernels.push(Kernel {
-            c: [x, y, z],
-            sigma,
-            w,
-        });
-        if kernels.len() > 4096 {
+        kernels.push(kernel(line, &words)?);
+        if kernels.len() > MAX_KERNELS {
             return wrong(line, "more than 4,096 kernels");
         }
     }
     Ok(kernels)
+}
+
+fn kernel(line: usize, words: &[&str]) -> Result<Kernel, LineError> {
+    if words.len() != 5 {
+        let why = format!(
+            "a kernel is `x y z sigma w`, here are {} words",
+            words.len()
+        );
+        return wrong(line, why);
+    }
+    let mut numbers = [0.0; 5];
+    for (place, word) in numbers.iter_mut().zip(words) {
+        *place = number(line, word)?;
+    }
+    let [x, y, z, sigma, w] = numbers;
+    if [x, y, z].iter().any(|x| x.abs() > MAX_COORDINATE) {
+        return wrong(line, "a centre's coordinates go up to 1e6 m");
+    }
+    if !(0.0..=MAX_SIGMA).contains(&sigma) {
+        return wrong(line, format!("sigma is {sigma}, it goes from 0 to 1e6"));
+    }
+    if w.abs() > MAX_WEIGHT {
+        return wrong(line, format!("w is {w}, it goes up to 1e30"));
+    }
+    let c = [x, y, z];
+    Ok(Kernel { c, sigma, w })
 }
 
 /// An edit to be made.
@@ -368,18 +361,13 @@ impl fmt::Display for Edit {
 /// The first line that is wrong.
 pub fn parse_edits(text: &str) -> Result<Vec<(usize, Edit)>, LineError> {
     let mut edits = Vec::new();
-    for (at, line) in text.lines().enumerate() {
-        let words: Vec<&str> = line
-            .split('#')
-            .next()
-            .unwrap_or_default()
-            .split_whitespace()
-            .collect();
-        if !words.is_empty() {
-            match Edit::parse(&words) {
-                Ok(edit) => edits.push((at + 1, edit)),
-                Err(why) => return wrong(at + 1, why),
-            }
+    for (line, words) in lines(text) {
+        if words.is_empty() {
+            continue;
+        }
+        match Edit::parse(&words) {
+            Ok(edit) => edits.push((line, edit)),
+            Err(why) => return wrong(line, why),
         }
     }
     Ok(edits)

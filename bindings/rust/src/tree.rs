@@ -1,5 +1,5 @@
 use crate::check::{check_tree, Fault};
-use crate::points::{float_at, floats_at, grid_of, scratch, word_at, HEADER};
+use crate::points::{float_at, floats_at, grid_of, records_of, scratch, word_at, HEADER};
 use crate::{cells, ffi, Refusal};
 use std::io;
 use std::path::Path;
@@ -94,14 +94,9 @@ impl Tree {
     /// # Errors
     /// 1 to 7.
     pub fn build(file: &[u8]) -> Result<Tree, Refusal> {
-        let grid = grid_of(file);
-        let most_order = grid.map_or(0, cells);
+        let most_order = grid_of(file).map_or(0, cells);
         let most_nodes = (2 * most_order).saturating_sub(1);
-        let count = if grid.is_some() {
-            word_at(file, 12) as usize
-        } else {
-            0
-        };
+        let count = records_of(file);
         // Most trees have fewer nodes than half their points; where that is short, twice as many, up to what always is enough.
         let mut nodes = (count / 2 + 256).min(most_nodes);
         let mut scratch = scratch(file);

@@ -5,8 +5,8 @@ mod common;
 use common::{file, record, Folder, Rng};
 use mascon::check::{check_points, check_tree, check_working_form, Place};
 use mascon::{
-    build_mascon, build_mascon_tree, is_inside, parse_mascon_bytes, shapes, Change, Kernel, Model,
-    Refusal, Tree, Triangle,
+    build_mascon, build_mascon_tree, is_inside, parse_mascon_bytes, shapes, text, Change, Kernel,
+    Model, Refusal, Tree, Triangle,
 };
 use std::collections::BTreeMap;
 
@@ -116,6 +116,8 @@ fn refusals_of_files() {
         (with(44, &(-9.0_f32).to_le_bytes()), 5),
         (with(80, &[4]), 6),
         (with(92, &f32::INFINITY.to_le_bytes()), 7),
+        // As many records as a word can count, at the finest grid.
+        (with(8, &[0, 1, 0, 0, 255, 255, 255, 255]), 4),
     ];
     for (file, number) in cases {
         let refusal = Refusal::from_number(number).unwrap();
@@ -552,4 +554,91 @@ fn damaged_trees_are_seen() {
     for length in 0..good.len() {
         assert!(!check_tree(&good[..length], 1).is_clean());
     }
+}
+
+/// The bounds that texts are read by are those that the library refuses by.
+#[test]
+fn bounds_of_texts_are_the_librarys() {
+    let above = |x: f64| f64::from_bits(x.to_bits() + 1);
+    let fill =
+        |mesh: &[Triangle], kernels: &[Kernel]| build_mascon(mesh, kernels, &[], 0.0, 1.0, 2);
+    let mesh = |x: f64| {
+        let text = format!(
+            "v 0 0 0\nv {x:?} 0 0\nv 0 9 0\nv 0 0 -9\nf 1 3 2\nf 1 2 4\nf 1 4 3\nf 2 3 4\n"
+        );
+        text::parse_obj(&text, 1.0)
+    };
+    for sign in [1.0, -1.0] {
+        let mut triangles = mesh(sign * mascon::MAX_COORDINATE).unwrap().triangles;
+        assert_ne!(fill(&triangles, &[]), Err(Refusal::OutOfBounds));
+        triangles[0].c[0] = sign * above(mascon::MAX_COORDINATE);
+        assert_eq!(fill(&triangles, &[]), Err(Refusal::OutOfBounds));
+        assert!(mesh(sign * above(mascon::MAX_COORDINATE)).is_err());
+    }
+    let triangles = mesh(9.0).unwrap().triangles;
+    let kernel = |[x, sigma, w]: [f64; 3]| {
+        let parsed = text::parse_kernels(&format!("{x:?} 0 0 {sigma:?} {w:?}"));
+        let given = [Kernel {
+            c: [x, 0.0, 0.0],
+            sigma,
+            w,
+        }];
+        assert_eq!(
+            parsed.is_err(),
+            fill(&triangles, &given) == Err(Refusal::OutOfBounds)
+        );
+        parsed.is_ok()
+    };
+    let most = [
+        mascon::MAX_COORDINATE,
+        mascon::MAX_SIGMA,
+        mascon::MAX_WEIGHT,
+    ];
+    assert!(kernel(most) && kernel([-most[0], -0.0, -most[2]]));
+    for i in 0..3 {
+        let mut numbers = most;
+        numbers[i] = above(numbers[i]);
+        assert!(!kernel(numbers), "{numbers:?}");
+    }
+    assert!(!kernel([0.0, -5e-324, 1.0]));
+    let line = "0 0 0 1 1\n";
+    assert!(text::parse_kernels(&line.repeat(mascon::MAX_KERNELS)).is_ok());
+    assert!(text::parse_kernels(&line.repeat(mascon::MAX_KERNELS + 1)).is_err());
+    let corners = "v 0 0 0\nv 1 0 0\nv 0 1 0\n";
+    let faces = |count: usize| corners.to_string() + &"f 1 2 3\n".repeat(count);
+    assert!(text::parse_obj(&faces(mascon::MAX_TRIANGLES), 1.0).is_ok());
+    assert!(text::parse_obj(&faces(mascon::MAX_TRIANGLES + 1), 1.0).is_err());
+    let many = vec![triangles[0]; mascon::MAX_TRIANGLES + 1];
+    assert_eq!(is_inside(&many, [0.0; 3]), Err(Refusal::OutOfBounds));
+    assert!(is_inside(&many[1..], [0.0; 3]).is_ok());
+}
+
+/// Line ends, tabs, a mark of the byte order and lines that go on do not change what is read.
+#[test]
+fn texts_as_other_programs_write_them() {
+    let good = "v 0 0 0\nv 9 0 0\nv 0 9 0\nv 0 0 9\nf 1 3 2\nf 1 2 4\nf 1 4 3\nf 2 3 4\n";
+    let mesh = text::parse_obj(good, 1.0).unwrap();
+    for other in [
+        good.replace('\n', "\r\n"),
+        good.replace(' ', "\t"),
+        format!("\u{feff}{good}"),
+        good.replace("f 1 2 4", "f 1 \\\n2\\\n 4"),
+        good.trim_end().to_string(),
+    ] {
+        let other = text::parse_obj(&other, 1.0).unwrap();
+        assert_eq!((&other.triangles, other.open_edges), (&mesh.triangles, 0));
+    }
+    let kernels = text::parse_kernels("0 0 0 1 2\n").unwrap();
+    assert_eq!(
+        text::parse_kernels("\u{feff}0\t0 0 1 2 # one\r\n").unwrap(),
+        kernels
+    );
+    let edits = text::parse_edits("\u{feff}undo\r\n\r\nremove\t1 2 3\r\n").unwrap();
+    assert_eq!(
+        edits,
+        [(1, text::Edit::Undo), (3, text::Edit::Remove(1, 2, 3))]
+    );
+    // Two bodies that touch along an edge are closed: it has four faces.
+    let two = format!("{good}v 0 -9 0\nv 0 0 -9\nf 1 2 5\nf 1 6 2\nf 1 5 6\nf 2 6 5\n");
+    assert_eq!(text::parse_obj(&two, 1.0).unwrap().open_edges, 0);
 }

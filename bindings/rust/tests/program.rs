@@ -376,3 +376,248 @@ fn faults_are_placed() {
     );
     assert!(!Path::new(&folder.file("a.png")).exists());
 }
+
+/// What stands at the output is not a file to be replaced, is read by the command, or would lose edits.
+#[test]
+fn outputs_that_must_stand() {
+    let folder = Folder::new("outputs");
+    let model = file(4, &[(0, 1, 2, 5.0, 6.0)]);
+    for name in ["m.rym1", "m.png", "edited.rym1"] {
+        fs::write(folder.file(name), &model).unwrap();
+    }
+    fs::write(
+        folder.file("mesh"),
+        "v 0 0 0\nv 9 0 0\nv 0 9 0\nv 0 0 9\nf 1 3 2\nf 1 2 4\nf 1 4 3\nf 2 3 4\n",
+    )
+    .unwrap();
+    fs::write(folder.file("k"), "0 0 0 0.1 1000\n").unwrap();
+    fs::create_dir(folder.file("d.png")).unwrap();
+    done(&folder, "put edited.rym1 1 1 1 1 1");
+    let edited = bytes(&folder, "edited.rym1");
+    let names = folder.names();
+    for (line, status, words) in [
+        ("build m.rym1 -o -", 2, "not standard output"),
+        ("build m.rym1 -o ./m.rym1", 2, "over its point file"),
+        ("draw m.png -o m.png", 2, "over its point file"),
+        (
+            "draw m.rym1 -o m.png --before m.png",
+            2,
+            "over its point file",
+        ),
+        ("fill mesh k -o mesh", 2, "over its mesh"),
+        ("fill mesh k -o k", 2, "over its kernels"),
+        ("fill mesh m.rym1 --elliptic k -o k", 2, "over its kernels"),
+        ("fill - - -o out", 2, "can be read once"),
+        ("build m.rym1 -o edited.rym1", 1, "has a journal"),
+        ("fill mesh k -o edited.rym1", 1, "has a journal"),
+        ("draw m.rym1 -o d.png", 1, "not a regular file"),
+        ("build m.rym1 -o .", 1, "not a regular file"),
+        ("build m.rym1 -o m.png/tree", 1, "m.png/tree: "),
+        ("put . 0 0 0 1 1", 1, "not a regular file"),
+    ] {
+        fails(&folder, line, status, words);
+    }
+    assert_eq!(bytes(&folder, "edited.rym1"), edited);
+    assert_eq!(bytes(&folder, "m.png"), model);
+    assert_eq!(folder.names(), names);
+    // A model that another run has is not written over, even where it has no journal yet.
+    let held = mascon::ModelFile::load(folder.file("m.png")).unwrap();
+    fails(&folder, "open m.rym1 -o m.png", 1, "another run");
+    drop(held);
+    done(&folder, "open m.rym1 -o m.png");
+}
+
+#[cfg(unix)]
+#[test]
+fn pipes_links_and_rights() {
+    use std::os::unix::fs::{symlink, FileTypeExt, PermissionsExt};
+    let folder = Folder::new("pipes_and_links");
+    let path = |name: &str| folder.file(name);
+    fs::write(path("m.rym1"), file(4, &[(0, 1, 2, 5.0, 6.0)])).unwrap();
+    let made = Command::new("mkfifo").arg(path("pipe")).status().unwrap();
+    assert!(made.success());
+    fails(&folder, "build m.rym1 -o pipe", 1, "not a regular file");
+    fails(&folder, "put pipe 0 0 0 1 1", 1, "not a regular file");
+    assert!(fs::metadata(path("pipe")).unwrap().file_type().is_fifo());
+    // A link to nothing yet is followed; one to itself is refused.
+    symlink("tree", path("link")).unwrap();
+    symlink("loop", path("loop")).unwrap();
+    done(&folder, "build m.rym1 -o link");
+    assert!(fs::symlink_metadata(path("link")).unwrap().is_symlink());
+    assert!(bytes(&folder, "tree").starts_with(b"RTM1"));
+    fails(&folder, "build m.rym1 -o loop", 1, "loop: ");
+    assert!(fs::symlink_metadata(path("loop")).unwrap().is_symlink());
+    // A read-only file stays, and others keep their rights.
+    let (model, rights) = (bytes(&folder, "m.rym1"), |mode: u32| {
+        fs::set_permissions(path("m.rym1"), fs::Permissions::from_mode(mode)).unwrap();
+    });
+    rights(0o444);
+    let names = folder.names();
+    fails(&folder, "put m.rym1 0 0 0 1 1", 1, "read-only");
+    fails(&folder, "open m.rym1 -o m.rym1", 1, "read-only");
+    assert_eq!(
+        (bytes(&folder, "m.rym1"), folder.names()),
+        (model.clone(), names)
+    );
+    rights(0o640);
+    done(&folder, "put m.rym1 0 0 0 1 1");
+    let mode = |name: &str| fs::metadata(path(name)).unwrap().permissions().mode() & 0o777;
+    assert_eq!((mode("m.rym1"), mode("m.rym1.journal")), (0o640, 0o640));
+}
+
+/// Names that are no text, begin with a dash or have a space.
+#[cfg(unix)]
+#[test]
+fn names_of_all_kinds() {
+    use std::os::unix::ffi::OsStrExt;
+    let folder = Folder::new("names");
+    let run = |words: &[&[u8]]| {
+        Command::new(env!("CARGO_BIN_EXE_mascon"))
+            .args(words.iter().map(|word| std::ffi::OsStr::from_bytes(word)))
+            .current_dir(folder.file(""))
+            .output()
+            .unwrap()
+    };
+    for name in [&b"a\xff.rym1"[..], b"-d.rym1", b"a b.rym1"] {
+        let path = folder.file("").join(std::ffi::OsStr::from_bytes(name));
+        fs::write(&path, file(4, &[(0, 1, 2, 5.0, 6.0)])).unwrap();
+        let put: [&[u8]; 8] = [b"put", b"--", name, b"1", b"1", b"1", b"-3", b"4"];
+        assert_eq!(run(&put).status.code(), Some(0));
+        assert_eq!(run(&[b"info", b"--", name]).status.code(), Some(0));
+        let draw: [&[u8]; 5] = [b"draw", b"-o", b"p.png", b"--", name];
+        assert_eq!(run(&draw).status.code(), Some(0));
+        assert_eq!(mascon::ModelFile::load(path).unwrap().model.entries(), 1);
+    }
+    let ran = run(&[b"draw", b"m", b"-o", b"p.png", b"--title", b"\xff"]);
+    assert_eq!(ran.status.code(), Some(2));
+    assert_eq!(run(&[b"\xff"]).status.code(), Some(2));
+    fails(&folder, "info -d.rym1", 2, "no option -d.rym1");
+}
+
+/// Standard input is read, and what cannot be written to the other two is no panic.
+#[cfg(target_os = "linux")]
+#[test]
+fn standard_streams() {
+    use std::process::Stdio;
+    let folder = Folder::new("streams");
+    fs::write(folder.file("m.rym1"), file(4, &[(0, 1, 2, 5.0, 6.0)])).unwrap();
+    fs::write(folder.file("edits"), "remove 3 3 3\nput 1 1 1 1 1\n").unwrap();
+    let open = |name: &str| Stdio::from(fs::File::open(folder.file(name)).unwrap());
+    let full = || Stdio::from(fs::File::options().write(true).open("/dev/full").unwrap());
+    let run = |line: &str| {
+        let mut command = Command::new(env!("CARGO_BIN_EXE_mascon"));
+        command
+            .args(line.split_whitespace())
+            .current_dir(folder.file(""));
+        command
+    };
+    let info = run("info -").stdin(open("m.rym1")).output().unwrap();
+    assert!(String::from_utf8(info.stdout).unwrap().contains("grid"));
+    for line in ["info m.rym1", "check m.rym1", "log m.rym1", "help"] {
+        let ran = run(line).stdout(full()).output().unwrap();
+        assert_eq!(ran.status.code(), Some(1), "{line}");
+        let err = String::from_utf8(ran.stderr).unwrap();
+        assert!(err.contains("standard output: "), "{line}: {err}");
+    }
+    let ran = run("frobnicate").stderr(full()).status().unwrap();
+    assert_eq!(ran.code(), Some(2));
+    // The refusal cannot be told, the edits are made all the same.
+    let line = "apply m.rym1 - --keep-going";
+    let mut command = run(line);
+    command.stdin(open("edits")).stdout(full()).stderr(full());
+    assert_eq!(command.status().unwrap().code(), Some(1));
+    assert_eq!(Model::open(&bytes(&folder, "m.rym1")).unwrap().len(), 2);
+}
+
+/// A command that edits nothing writes nothing, and does not say that it does.
+#[test]
+fn nothing_to_save() {
+    let folder = Folder::new("nothing_to_save");
+    let shuffled = file(4, &[(3, 1, 2, 5.0, 6.0), (0, 1, 2, 5.0, 6.0)]);
+    fs::write(folder.file("m"), &shuffled).unwrap();
+    fs::write(folder.file("none"), "# nothing\n").unwrap();
+    for line in ["log m", "undo m --all", "apply m none"] {
+        let ran = mascon(&folder, line);
+        assert_eq!((ran.status, &*ran.err), (0, ""), "{line}");
+    }
+    fails(&folder, "undo m --steps 0", 2, "nothing to do");
+    fails(&folder, "remove m 0 0 0", 1, "refused 12");
+    assert_eq!(bytes(&folder, "m"), shuffled);
+    assert_eq!(folder.names(), ["m", "none"]);
+    let ran = mascon(&folder, "remove m 0 1 2");
+    assert!(ran.err.contains("is written so now"), "{}", ran.err);
+}
+
+/// What info and check say of a save that was cut off between its renames; only an edit or log finishes it.
+#[test]
+fn a_save_that_was_cut_off() {
+    let folder = Folder::new("cut_off");
+    fs::write(folder.file("m"), file(4, &[(0, 1, 2, 5.0, 6.0)])).unwrap();
+    let old = bytes(&folder, "m");
+    done(&folder, "put m 1 1 1 1 1");
+    let new = bytes(&folder, "m");
+    fs::write(folder.file("m.pending"), &new).unwrap();
+    fs::write(folder.file("m"), &old).unwrap();
+    assert!(done(&folder, "info m").contains("cut off while saving"));
+    let ran = mascon(&folder, "check m");
+    assert!(ran.status == 1 && ran.out.contains("cut off while saving"));
+    assert_eq!(bytes(&folder, "m"), old);
+    assert!(done(&folder, "log m").contains("1 edits to undo"));
+    assert_eq!(bytes(&folder, "m"), new);
+    assert_eq!(folder.names(), ["m", "m.journal"]);
+    // Written anew, a model takes nothing over from a run that was cut off.
+    fs::write(folder.file("m.pending"), &old).unwrap();
+    fs::write(folder.file("other"), &old).unwrap();
+    done(&folder, "open other -o m --force");
+    assert_eq!(folder.names(), ["m", "other"]);
+}
+
+/// All causes of a point file, 10 after 1 to 7; a file of another kind has no list of records.
+#[test]
+fn check_lists_every_cause() {
+    let folder = Folder::new("every_cause");
+    let mut bad = file(
+        4,
+        &[
+            (3, 1, 2, f32::INFINITY, 6.0),
+            (0, 1, 2, 5.0, 6.0),
+            (0, 1, 2, 5.0, 6.0),
+        ],
+    );
+    bad[24..28].copy_from_slice(&f32::NAN.to_le_bytes());
+    bad[44..48].copy_from_slice(&(-9.0_f32).to_le_bytes());
+    bad[12] = 4;
+    bad[70] = 1;
+    fs::write(folder.file("bad"), &bad).unwrap();
+    let ran = mascon(&folder, "check bad");
+    assert!(ran.err.contains("4 faults"), "{}", ran.err);
+    let lines: Vec<&str> = ran.out.lines().collect();
+    assert_eq!(
+        lines,
+        [
+            "cause 4: header, count, byte 12: 4 records are counted, 3 are there",
+            "cause 5: header, scale, byte 24: NaN is not finite",
+            "cause 5: header, box min x, byte 32: min -8 is not below max -9",
+            "cause 7: record 0, Cauchy mass, byte 72: inf is not finite",
+            "and not in working form:",
+            "cause 10: record 0, pad, byte 70: 1 is not 0",
+            "cause 10: record 1, x, byte 80: cell (0, 1, 2) stands after a later cell",
+            "cause 10: record 2, x, byte 96: cell (0, 1, 2) again: the later record counts",
+        ]
+    );
+    let ran = mascon(&folder, "check bad --most 1");
+    assert!(ran.out.contains("... and 3 more"), "{}", ran.out);
+    fs::write(folder.file("text"), "no point file\n".repeat(20)).unwrap();
+    assert_eq!(mascon(&folder, "check text").out.lines().count(), 1);
+}
+
+#[test]
+fn an_example_spares_other_files() {
+    let folder = Folder::new("example");
+    fs::write(folder.file("edits.txt"), "undo\n").unwrap();
+    fails(&folder, "example .", 1, "edits.txt is there already");
+    assert_eq!(folder.names(), ["edits.txt"]);
+    done(&folder, "example . --force --rings 4");
+    done(&folder, "example . --rings 4");
+    assert_eq!(folder.names().len(), 4);
+}

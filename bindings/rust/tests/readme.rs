@@ -49,3 +49,35 @@ fn from_zero_to_a_tree() -> Result<(), Box<dyn std::error::Error>> {
     assert_eq!(tree.order_count(), model.len());
     Ok(())
 }
+
+/// The commands of the first hour, but for building the program.
+#[cfg(unix)]
+#[test]
+fn commands_as_in_the_readme() {
+    let folder = Folder::new("commands_as_in_the_readme");
+    let readme = include_str!("../README.md");
+    let (_, block) = readme.split_once("```sh\n").unwrap();
+    let (block, _) = block.split_once("```").unwrap();
+    let lines = block
+        .lines()
+        .filter(|line| line.starts_with("mascon ") || line.starts_with("cp "));
+    let lines: Vec<&str> = lines.collect();
+    assert_eq!(lines.len(), 7);
+    let program = std::path::Path::new(env!("CARGO_BIN_EXE_mascon"));
+    let folders = std::env::var("PATH").unwrap();
+    let run = std::process::Command::new("sh")
+        .args(["-ec", &lines.join("\n")])
+        .current_dir(folder.file(""))
+        .env(
+            "PATH",
+            format!("{}:{folders}", program.parent().unwrap().display()),
+        )
+        .output()
+        .unwrap();
+    assert!(
+        run.status.success(),
+        "{}",
+        String::from_utf8_lossy(&run.stderr)
+    );
+    assert!(folder.file("try").join("edits.png").is_file());
+}

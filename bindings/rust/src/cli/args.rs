@@ -2,10 +2,12 @@
 
 use super::Failure;
 use std::collections::HashMap;
+use std::ffi::{OsStr, OsString};
+use std::path::Path;
 
 pub(crate) struct Args {
-    words: Vec<String>,
-    options: HashMap<String, String>,
+    words: Vec<OsString>,
+    options: HashMap<String, OsString>,
     flags: Vec<String>,
 }
 
@@ -26,40 +28,26 @@ fn is_option(word: &str) -> bool {
         && word.parse::<f64>().is_err()
 }
 
+fn text<'a>(what: &str, word: &'a OsStr) -> Result<&'a str, Failure> {
+    let wrong = || Failure::usage(format!("{what}: {} is not text (UTF-8)", word.display()));
+    word.to_str().ok_or_else(wrong)
+}
+
 impl Args {
-    pub(crate) fn parse(words: &[String], takes: &Takes) -> Result<Args, Failure> {
+    pub(crate) fn parse(words: &[OsString], takes: &Takes) -> Result<Args, Failure> {
         let mut args = Args {
             words: Vec::new(),
             options: HashMap::new(),
             flags: Vec::new(),
         };
         let mut words = words.iter();
-        let mut plain = false;
         while let Some(word) = words.next() {
-            if plain || !is_option(word) {
-                args.words.push(word.clone());
-                continue;
-            }
-            if word == "--" {
-                plain = true;
-                continue;
-            }
-            let (name, given) = match word.split_once('=') {
-                Some((name, value)) if name.starts_with("--") => (name, Some(value.to_string())),
-                _ => (word.as_str(), None),
-            };
-            if takes.flags.contains(&name) && given.is_none() {
-                args.flags.push(name.to_string());
-            } else if takes.options.contains(&name) {
-                let value = given.or_else(|| words.next().cloned());
-                let Some(value) = value else {
-                    return Err(Failure::usage(format!("{name} takes a value")));
-                };
-                if args.options.insert(name.to_string(), value).is_some() {
-                    return Err(Failure::usage(format!("{name} is given twice")));
+            match word.to_str() {
+                Some("--") => args.words.extend(words.by_ref().cloned()),
+                Some(option) if is_option(option) => {
+                    args.option_or_flag(option, &mut words, takes)?
                 }
-            } else {
-                return Err(Failure::usage(format!("no option {word} here")));
+                _ => args.words.push(word.clone()),
             }
         }
         if args.words.len() < takes.words.len() {
@@ -67,30 +55,62 @@ impl Args {
             return Err(Failure::usage(format!("missing: {missing}")));
         }
         if let Some(word) = args.words.get(takes.words.len()) {
+            let word = word.display();
             return Err(Failure::usage(format!("`{word}` is one word too many")));
         }
         Ok(args)
     }
 
-    pub(crate) fn word(&self, place: usize) -> &str {
-        &self.words[place]
+    /// `-o VALUE`, `--name VALUE`, `--name=VALUE` or a flag.
+    fn option_or_flag<'a>(
+        &mut self,
+        word: &str,
+        rest: &mut impl Iterator<Item = &'a OsString>,
+        takes: &Takes,
+    ) -> Result<(), Failure> {
+        let (name, given) = match word.split_once('=') {
+            Some((name, value)) if name.starts_with("--") => (name, Some(value.into())),
+            _ => (word, None),
+        };
+        if takes.flags.contains(&name) && given.is_none() {
+            self.flags.push(name.to_string());
+            return Ok(());
+        }
+        if !takes.options.contains(&name) {
+            return Err(Failure::usage(format!("no option {word} here")));
+        }
+        let Some(value) = given.or_else(|| rest.next().cloned()) else {
+            return Err(Failure::usage(format!("{name} takes a value")));
+        };
+        match self.options.insert(name.to_string(), value) {
+            Some(_) => Err(Failure::usage(format!("{name} is given twice"))),
+            None => Ok(()),
+        }
     }
 
-    pub(crate) fn words(&self) -> impl Iterator<Item = &str> {
-        self.words.iter().map(String::as_str)
+    /// A word that names a file or folder.
+    pub(crate) fn path(&self, place: usize) -> &Path {
+        Path::new(&self.words[place])
+    }
+
+    /// The words from a place on.
+    pub(crate) fn texts(&self, from: usize) -> Result<Vec<&str>, Failure> {
+        let words = self.words[from..].iter();
+        words.map(|word| text("an argument", word)).collect()
     }
 
     pub(crate) fn flag(&self, name: &str) -> bool {
         self.flags.iter().any(|flag| flag == name)
     }
 
-    pub(crate) fn option(&self, name: &str) -> Option<&str> {
-        self.options.get(name).map(String::as_str)
+    pub(crate) fn option(&self, name: &str) -> Result<Option<&str>, Failure> {
+        let value = self.options.get(name);
+        value.map(|value| text(name, value)).transpose()
     }
 
-    pub(crate) fn needed(&self, name: &str) -> Result<&str, Failure> {
-        let missing = || Failure::usage(format!("missing: {name}"));
-        self.option(name).ok_or_else(missing)
+    /// An option that names a file.
+    pub(crate) fn option_path(&self, name: &str) -> Option<&Path> {
+        self.options.get(name).map(Path::new)
     }
 
     /// An option's number, or the default.
@@ -99,7 +119,7 @@ impl Args {
         name: &str,
         default: T,
     ) -> Result<T, Failure> {
-        match self.option(name) {
+        match self.option(name)? {
             None => Ok(default),
             Some(value) => value.parse().map_err(|_| {
                 Failure::usage(format!("{name}: `{value}` is not a number that fits"))

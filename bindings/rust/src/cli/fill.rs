@@ -1,10 +1,10 @@
 //! The command fill, with its progress.
 
 use super::args::Args;
-use super::{free_of_journal, quoted, read_text, say, write, Failure};
-use mascon::text::{parse_kernels, parse_obj};
+use super::progress::{seconds, Progress};
+use super::{is_stdin, output, read_text, say, shown, tell, write_model, Failure};
+use mascon::text::{parse_kernels, parse_obj, LineError, Mesh};
 use mascon::{build_mascon, Header, Kernel, Model, Refusal, Triangle};
-use std::io::{IsTerminal, Write};
 use std::path::Path;
 use std::sync::mpsc::{channel, RecvTimeoutError};
 use std::time::{Duration, Instant};
@@ -35,80 +35,104 @@ impl Task<'_> {
     }
 }
 
-fn seconds(time: f64) -> String {
-    match time {
-        time if time < 100.0 => format!("{time:.0} s"),
-        time if time < 6000.0 => format!("{:.0} min", time / 60.0),
-        time => format!("{:.1} h", time / 3600.0),
+impl Task<'_> {
+    /// What the fill will take, in seconds, by a coarse grid and cells x triangles; none where that is little.
+    fn estimate(&self) -> Option<f64> {
+        let work = self.work(self.grid);
+        // A hundredth of the work, or some ten million tests, whichever is less.
+        let share = (work / 100.0).min(1e7) / self.triangles.len().max(1) as f64;
+        let coarse = share.cbrt() as u32;
+        if work <= 2e8 || coarse < 2 {
+            return None;
+        }
+        let start = Instant::now();
+        // Its answer does not matter: more points than half the cells may be found.
+        let _ = self.fill(coarse);
+        Some(start.elapsed().as_secs_f64() * work / self.work(coarse))
+    }
+
+    fn progress(&self, elapsed: f64, estimate: Option<f64>) -> String {
+        let total = estimate.map_or(String::new(), |total| {
+            format!(" of about {}", seconds(total))
+        });
+        format!(
+            "filling, {} cells x {} triangles: {}{total}",
+            u64::from(self.grid).pow(3),
+            self.triangles.len(),
+            seconds(elapsed)
+        )
     }
 }
 
-/// Fills in a thread. The call is one piece: what it will take is judged from a coarse grid and cells x triangles.
+/// Fills in a thread; the call is one piece.
 fn with_progress(task: &Task) -> Result<Vec<u8>, Refusal> {
     std::thread::scope(|scope| {
         let (sender, receiver) = channel();
-        let start = Instant::now();
         scope.spawn(move || {
-            let mut estimate = None;
-            // A hundredth of the work, or some ten million tests, whichever is less.
-            let share =
-                (task.work(task.grid) / 100.0).min(1e7) / task.triangles.len().max(1) as f64;
-            let coarse = share.cbrt() as u32;
-            if task.work(task.grid) > 2e8 && coarse >= 2 {
-                let start = Instant::now();
-                // Its answer does not matter: more points than half the cells may be found.
-                let _ = task.fill(coarse);
-                let time = start.elapsed().as_secs_f64();
-                estimate = Some(time * task.work(task.grid) / task.work(coarse));
-            }
-            let _ = sender.send(Err(estimate));
+            let _ = sender.send(Err(task.estimate()));
             let _ = sender.send(Ok(task.fill(task.grid)));
         });
-        let terminal = std::io::stderr().is_terminal();
-        let mut estimate: Option<f64> = None;
-        let mut shown = false;
-        let mut wait = Duration::from_secs(2);
-        let filled = loop {
-            match receiver.recv_timeout(wait) {
-                Ok(Ok(filled)) => break filled,
+        let mut progress = Progress::new();
+        let mut estimate = None;
+        loop {
+            match receiver.recv_timeout(Duration::from_millis(200)) {
+                Ok(Ok(filled)) => return filled,
                 Ok(Err(judged)) => estimate = judged,
-                Err(RecvTimeoutError::Disconnected) => unreachable!("the thread sends its answer"),
                 Err(RecvTimeoutError::Timeout) => {
-                    let elapsed = start.elapsed().as_secs_f64();
-                    let total = estimate.map_or(String::new(), |total| {
-                        format!(" of about {}", seconds(total))
-                    });
-                    let work = format!(
-                        "{} cells x {} triangles",
-                        u64::from(task.grid).pow(3),
-                        task.triangles.len()
-                    );
-                    let (begin, end) = if terminal {
-                        ("\r\x1b[K", "")
-                    } else {
-                        ("", "\n")
-                    };
-                    let mut stderr = std::io::stderr().lock();
-                    let _ = write!(
-                        stderr,
-                        "{begin}filling, {work}: {}{total}{end}",
-                        seconds(elapsed)
-                    );
-                    let _ = stderr.flush();
-                    shown = true;
-                    wait = Duration::from_secs(if terminal { 1 } else { 10 });
+                    progress.tell(|elapsed| task.progress(elapsed, estimate));
                 }
+                Err(RecvTimeoutError::Disconnected) => unreachable!("the thread sends its answer"),
             }
-        };
-        if shown && terminal {
-            eprintln!();
         }
-        filled
     })
 }
 
+fn in_file(path: &Path, error: LineError) -> Failure {
+    Failure::failed(format!("{}: {error}", shown(path)))
+}
+
+fn read_mesh(path: &Path, scale: f64) -> Result<Mesh, Failure> {
+    let mesh = parse_obj(&read_text(path)?, scale).map_err(|error| in_file(path, error))?;
+    let name = shown(path);
+    for (keyword, line) in &mesh.ignored {
+        tell(format!("{name}: line {line}: `{keyword}` is passed over"));
+    }
+    if mesh.open_edges > 0 {
+        tell(format!(
+            "{name}: the mesh is not closed, {} edges have an odd number of faces; cells near them may be judged wrongly",
+            mesh.open_edges
+        ));
+    }
+    Ok(mesh)
+}
+
+/// The lists of Cauchy and of elliptic kernels.
+fn read_kernels(args: &Args) -> Result<[Vec<Kernel>; 2], Failure> {
+    let read = |path: &Path| parse_kernels(&read_text(path)?).map_err(|error| in_file(path, error));
+    let elliptic = args.option_path("--elliptic").map(read).transpose()?;
+    let lists = [read(args.path(1))?, elliptic.unwrap_or_default()];
+    for (list, name) in lists.iter().zip(["Cauchy", "elliptic"]) {
+        if list.is_empty() {
+            tell(format!("no {name} kernels: {name} masses are 0"));
+        }
+    }
+    Ok(lists)
+}
+
+/// Where the point file goes: over none of the files that are read. One of these at most is standard input.
+fn out(args: &Args) -> Result<&Path, Failure> {
+    let mut inputs = vec![(args.path(0), "its mesh"), (args.path(1), "its kernels")];
+    inputs.extend(
+        args.option_path("--elliptic")
+            .map(|path| (path, "its kernels")),
+    );
+    if inputs.iter().filter(|(path, _)| is_stdin(path)).count() > 1 {
+        return Err(Failure::usage("standard input (-) can be read once"));
+    }
+    output(args, &inputs)
+}
+
 pub(crate) fn fill(args: &Args) -> Result<(), Failure> {
-    let out = Path::new(args.needed("-o")?);
     let grid = args.number("--grid", 64_u32)?;
     let target = args.number("--target", 0.0_f64)?;
     let density = args.number("--density", 1190.0_f64)?;
@@ -116,38 +140,9 @@ pub(crate) fn fill(args: &Args) -> Result<(), Failure> {
     if !(scale.is_finite() && scale > 0.0) {
         return Err(Failure::usage(format!("--scale: {scale} is not above 0")));
     }
-    let (mesh_path, kernel_path) = (Path::new(args.word(0)), Path::new(args.word(1)));
-    free_of_journal(out, args.flag("--force"))?;
-    let in_file = |path: &Path, error: mascon::text::LineError| {
-        Failure::failed(format!("{}: {error}", quoted(path)))
-    };
-    let mesh =
-        parse_obj(&read_text(mesh_path)?, scale).map_err(|error| in_file(mesh_path, error))?;
-    for (keyword, line) in &mesh.ignored {
-        eprintln!(
-            "mascon: {}: line {line}: `{keyword}` is passed over",
-            quoted(mesh_path)
-        );
-    }
-    if mesh.open_edges > 0 {
-        eprintln!(
-            "mascon: {}: the mesh is not closed, {} edges do not have two faces; cells near them may be judged wrongly",
-            quoted(mesh_path),
-            mesh.open_edges
-        );
-    }
-    let kernels =
-        |path: &Path| parse_kernels(&read_text(path)?).map_err(|error| in_file(path, error));
-    let cauchy = kernels(kernel_path)?;
-    let elliptic = match args.option("--elliptic") {
-        Some(path) => kernels(Path::new(path))?,
-        None => Vec::new(),
-    };
-    for (list, name) in [(&cauchy, "Cauchy"), (&elliptic, "elliptic")] {
-        if list.is_empty() {
-            eprintln!("mascon: no {name} kernels: {name} masses are 0");
-        }
-    }
+    let out = out(args)?;
+    let mesh = read_mesh(args.path(0), scale)?;
+    let [cauchy, elliptic] = read_kernels(args)?;
     let task = Task {
         triangles: &mesh.triangles,
         cauchy: &cauchy,
@@ -162,21 +157,26 @@ pub(crate) fn fill(args: &Args) -> Result<(), Failure> {
     } else {
         with_progress(&task)
     };
-    let file = filled.map_err(|refusal| Failure::refused("fill", refusal))?;
     let time = start.elapsed().as_secs_f64();
-    let model =
-        Model::open(&file).map_err(|refusal| Failure::refused("what fill wrote", refusal))?;
-    write(out, &file)?;
-    super::drop_journal(out)?;
-    let Header { min, max, .. } = model.header();
+    let model = filled
+        .and_then(|file| Model::open(&file))
+        .map_err(|refusal| Failure::refused("fill", refusal))?;
+    if model.is_empty() {
+        tell("no cell's middle lies inside the mesh: the point file is empty; try a finer grid");
+    }
+    write_model(out, &model)?;
+    say(summary(out, &model, mesh.triangles.len(), time));
+    Ok(())
+}
+
+fn summary(out: &Path, model: &Model, triangles: usize, time: f64) -> String {
+    let Header { grid, min, max, .. } = model.header();
     let (cauchy, elliptic) = model.masses();
-    say(format!(
-        "{}: {} points of {} cells, from {} triangles, in {time:.1} s\n\
+    format!(
+        "{}: {} points of {} cells, from {triangles} triangles, in {time:.1} s\n\
          box {min:?} to {max:?} m\nCauchy mass {cauchy:.6e} kg, elliptic mass {elliptic:.6e} kg\n",
-        quoted(out),
+        shown(out),
         model.len(),
         u64::from(grid).pow(3),
-        mesh.triangles.len(),
-    ));
-    Ok(())
+    )
 }

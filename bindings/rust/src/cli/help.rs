@@ -17,7 +17,9 @@ mascon: models of small bodies as point masses in a grid
   mascon example DIR                write a contact binary to try the above on
   mascon help COMMAND               more about a command
 
-Exit status: 0 done, 1 refused or failed, 2 wrong usage. On failure no file is changed.
+Exit status: 0 done, 1 refused or failed, 2 wrong usage. On failure no file is changed (apply --keep-going saves the
+edits that were made). A file to be read may be - for standard input, but not a model that is edited. A name that begins
+with - follows a word of its own, --.
 ";
 
 const FILL: &str = "\
@@ -26,7 +28,7 @@ mascon fill MESH KERNELS -o OUT [--grid N] [--target KG] [--density D] [--ellipt
 Writes the point file (RYM1) of the cells whose middle lies inside the mesh.
 
   MESH            Wavefront OBJ in metres: v and f lines; faces with more than three corners become fans
-  KERNELS         the Cauchy kernels, one a line: x y z sigma w, in metres and 1/metre; # begins a comment
+  KERNELS         the Cauchy kernels, one a line: x y z sigma w, in metres, 1/metre and kg/m^3; # begins a comment
   -o OUT          the point file
   --grid N        cells on each axis, 1 to 256 (64)
   --target KG     scale each list's masses to this sum; 0: as the kernels give them (0)
@@ -36,14 +38,14 @@ Writes the point file (RYM1) of the cells whose middle lies inside the mesh.
   --force         write over a model that has a journal; the journal goes
   --quiet         no progress on standard error
 
-The time grows with cells x triangles.
+The time grows with cells x triangles. At most 2^20 triangles and 4,096 kernels a list; coordinates up to 1e6 m.
 ";
 
 const OPEN: &str = "\
 mascon open IN -o OUT [--force]
 
 Writes a point file in working form: one record for each occupied cell, ascending by cell. Where two records name
-one cell, the later counts.
+one cell, the later counts. OUT may be IN. With --force, OUT may be a model that has a journal; the journal goes.
 ";
 
 const EDIT: &str = "\
@@ -58,13 +60,14 @@ written beside and renamed; the journal names its model by length and hash, and 
 is refused. A run that was cut off between the two renames is finished by the next.
 
 apply stops at the first refusal, names its line and changes nothing. With --keep-going it passes over refused edits,
-saves the others and exits with 1 if any was refused.
+saves the others and exits with 1 if any was refused. Each edit judges the whole model, about 8 ms for a million
+points: 10,000 edits of such a model take a minute or two.
 ";
 
 const BUILD: &str = "\
 mascon build IN -o OUT
 
-Builds the tree (RTM1, version 2) of a point file, in working form or not.
+Builds the tree (RTM1, version 2) of a point file, in working form or not. The journal is not read.
 ";
 
 const INFO: &str = "\
@@ -76,8 +79,9 @@ Counts, masses, box and depth of a point file (RYM1) or tree (RTM1).
 const CHECK: &str = "\
 mascon check FILE [--most N]
 
-Lists every fault of a point file or tree: cause, record or node, field and byte; N of them (20). Of a point file it
-also says whether it is in working form, and judges MODEL.journal where there is one. Exit status 1 if there is a fault.
+Lists every fault of a point file or tree: cause, record or node, field and byte, all counted from 0; N of them (20).
+Of a point file it also lists what is not in working form (cause 10), which is no fault, and where it has none it judges
+FILE.journal. Exit status 1 if there is a fault.
 ";
 
 const DRAW: &str = "\
@@ -88,10 +92,10 @@ cells added, removed and changed since OTHER are marked.
 ";
 
 const EXAMPLE: &str = "\
-mascon example DIR [--rings N]
+mascon example DIR [--rings N] [--force]
 
 Writes a contact binary, two lumpy balls that touch, to DIR: binary.obj, cauchy.txt, elliptic.txt and edits.txt (for
-grid 32). N is the mesh's fineness (24).
+grid 32). N is the mesh's fineness, 4 to 256 (24). With --force over other files of these names.
 ";
 
 pub(crate) fn of(command: &str) -> Option<&'static str> {

@@ -1,7 +1,7 @@
 //! The commands info, check and draw.
 
 use super::args::Args;
-use super::{quoted, read, say, write, Failure};
+use super::{is_stdin, output, print, read, say, shown, write, Failure};
 use mascon::check::{check_points, check_tree, check_working_form, Report};
 use mascon::draw::{difference, Mass, Picture};
 use mascon::{journal_entries, Model, ModelFileError, Tree};
@@ -28,22 +28,22 @@ fn floats(numbers: [f32; 3]) -> String {
 }
 
 pub(crate) fn info(args: &Args) -> Result<(), Failure> {
-    let path = Path::new(args.word(0));
+    let path = args.path(0);
     let bytes = read(path)?;
     let mut text = String::new();
     if is_tree(&bytes) {
         let tree = Tree::open(bytes).map_err(|fault| {
             Failure::failed(format!(
                 "{}: {fault}; `mascon check` lists all",
-                quoted(path)
+                shown(path)
             ))
         })?;
         tree_info(&mut text, &tree);
     } else {
         let model =
-            Model::open(&bytes).map_err(|refusal| Failure::refused(quoted(path), refusal))?;
+            Model::open(&bytes).map_err(|refusal| Failure::refused(shown(path), refusal))?;
         points_info(&mut text, &model, &bytes);
-        match journal_entries(path, &bytes) {
+        match journal(path, &bytes) {
             Ok(None) => {}
             Ok(Some(entries)) => {
                 let _ = writeln!(text, "journal         {entries} edits to undo");
@@ -53,8 +53,15 @@ pub(crate) fn info(args: &Args) -> Result<(), Failure> {
             }
         }
     }
-    say(text);
-    Ok(())
+    print(text)
+}
+
+/// How many edits the journal beside a file holds; standard input has none.
+fn journal(path: &Path, bytes: &[u8]) -> Result<Option<usize>, ModelFileError> {
+    if is_stdin(path) {
+        return Ok(None);
+    }
+    journal_entries(path, bytes)
 }
 
 fn points_info(text: &mut String, model: &Model, bytes: &[u8]) {
@@ -176,116 +183,142 @@ fn list(text: &mut String, report: &Report) {
     }
 }
 
+/// The faults of a tree.
+fn tree_faults(text: &mut String, bytes: &[u8], most: usize) -> usize {
+    let report = check_tree(bytes, most);
+    list(text, &report);
+    report.total
+}
+
+/// The faults of a point file, what keeps it from working form, and the faults of its journal.
+fn point_faults(
+    text: &mut String,
+    path: &Path,
+    bytes: &[u8],
+    most: usize,
+) -> Result<usize, Failure> {
+    let report = check_points(bytes, most.max(1));
+    let refused = Model::open(bytes).err();
+    let first = report.faults.first().and_then(|fault| fault.cause);
+    if refused != first {
+        return Err(Failure::failed(format!(
+            "{}: the library says {refused:?}, the list of faults {first:?}: please report this file",
+            shown(path)
+        )));
+    }
+    list(text, &report);
+    let form = check_working_form(bytes, most);
+    if bytes.starts_with(b"RYM1") && !form.is_clean() {
+        text.push_str(if report.is_clean() {
+            "accepted, but not in working form (`mascon open` writes it):\n"
+        } else {
+            "and not in working form:\n"
+        });
+        list(text, &form);
+    }
+    match report.total {
+        0 => journal_faults(text, path, bytes),
+        total => Ok(total),
+    }
+}
+
+fn journal_faults(text: &mut String, path: &Path, bytes: &[u8]) -> Result<usize, Failure> {
+    match journal(path, bytes) {
+        Ok(None) => Ok(0),
+        Ok(Some(entries)) => {
+            let _ = writeln!(text, "journal: {entries} edits, each fits its cell");
+            Ok(0)
+        }
+        Err(error @ ModelFileError::File(..)) => Err(Failure::failed(error)),
+        Err(error) => {
+            let _ = writeln!(text, "journal: {error}");
+            Ok(1)
+        }
+    }
+}
+
 pub(crate) fn check(args: &Args) -> Result<(), Failure> {
-    let path = Path::new(args.word(0));
+    let path = args.path(0);
     let most = args.number("--most", 20_usize)?;
     let bytes = read(path)?;
     let mut text = String::new();
-    let mut faults;
-    if is_tree(&bytes) {
-        let report = check_tree(&bytes, most);
-        faults = report.total;
-        list(&mut text, &report);
+    let faults = if is_tree(&bytes) {
+        tree_faults(&mut text, &bytes, most)
     } else {
-        let report = check_points(&bytes, most.max(1));
-        faults = report.total;
-        let refused = Model::open(&bytes).err();
-        let first = report.faults.first().and_then(|fault| fault.cause);
-        if refused != first {
-            return Err(Failure::failed(format!(
-                "{}: the library says {refused:?}, the list of faults {first:?}: please report this file",
-                quoted(path)
-            )));
-        }
-        list(&mut text, &report);
-        if report.is_clean() {
-            let form = check_working_form(&bytes, most);
-            if !form.is_clean() {
-                let _ = writeln!(
-                    text,
-                    "accepted, but not in working form (`mascon open` writes it):"
-                );
-                list(&mut text, &form);
-            }
-            match journal_entries(path, &bytes) {
-                Ok(None) => {}
-                Ok(Some(entries)) => {
-                    let _ = writeln!(text, "journal: {entries} edits, each fits its cell");
-                }
-                Err(error @ ModelFileError::File(..)) => {
-                    return Err(Failure::failed(error.to_string()))
-                }
-                Err(error) => {
-                    faults += 1;
-                    let _ = writeln!(text, "journal: {error}");
-                }
-            }
-        }
-    }
+        point_faults(&mut text, path, &bytes, most)?
+    };
     if faults == 0 {
-        let _ = writeln!(text, "{}: no fault", quoted(path));
-        say(text);
-        return Ok(());
+        let _ = writeln!(text, "{}: no fault", shown(path));
+        return print(text);
     }
-    say(text);
+    print(text)?;
     let ending = if faults == 1 { "" } else { "s" };
-    Err(Failure::failed(format!(
-        "{}: {faults} fault{ending}",
-        quoted(path)
-    )))
+    let why = format!("{}: {faults} fault{ending}", shown(path));
+    Err(Failure::failed(why))
+}
+
+/// The model to be drawn.
+fn model(path: &Path) -> Result<Model, Failure> {
+    let bytes = read(path)?;
+    if is_tree(&bytes) {
+        let why = format!("{}: this is a tree, draw its point file", shown(path));
+        return Err(Failure::failed(why));
+    }
+    Model::open(&bytes).map_err(|refusal| Failure::refused(shown(path), refusal))
+}
+
+fn mass(args: &Args) -> Result<Mass, Failure> {
+    match args.option("--mass")? {
+        None | Some("cauchy") => Ok(Mass::Cauchy),
+        Some("elliptic") => Ok(Mass::Elliptic),
+        Some(other) => Err(Failure::usage(format!(
+            "--mass: `{other}` is not cauchy or elliptic"
+        ))),
+    }
+}
+
+/// The title that is given, else the files' names.
+fn title(args: &Args) -> Result<String, Failure> {
+    let name = |path: &Path| {
+        let name = path.file_name().unwrap_or_default();
+        name.to_string_lossy().into_owned()
+    };
+    let path = name(args.path(0));
+    Ok(
+        match (args.option("--title")?, args.option_path("--before")) {
+            (Some(title), _) => title.to_string(),
+            (None, None) => path,
+            (None, Some(other)) => format!("{path}, held against {}", name(other)),
+        },
+    )
+}
+
+/// Where the picture goes, and whether it is SVG.
+fn picture_file(args: &Args) -> Result<(&Path, bool), Failure> {
+    let mut inputs = vec![(args.path(0), "its point file")];
+    inputs.extend(
+        args.option_path("--before")
+            .map(|path| (path, "its point file")),
+    );
+    let out = output(args, &inputs)?;
+    let ending = out.extension().and_then(|ending| ending.to_str());
+    match ending.map(str::to_ascii_lowercase).as_deref() {
+        Some("svg") => Ok((out, true)),
+        Some("png") => Ok((out, false)),
+        _ => Err(Failure::usage(format!(
+            "-o: {} does not end in .svg or .png",
+            shown(out)
+        ))),
+    }
 }
 
 pub(crate) fn draw(args: &Args) -> Result<(), Failure> {
-    let path = Path::new(args.word(0));
-    let out = Path::new(args.needed("-o")?);
-    let mass = match args.option("--mass") {
-        None | Some("cauchy") => Mass::Cauchy,
-        Some("elliptic") => Mass::Elliptic,
-        Some(other) => {
-            return Err(Failure::usage(format!(
-                "--mass: `{other}` is not cauchy or elliptic"
-            )))
-        }
-    };
-    let ending = out
-        .extension()
-        .and_then(|ending| ending.to_str())
-        .unwrap_or_default();
-    let svg = ending.eq_ignore_ascii_case("svg");
-    if !svg && !ending.eq_ignore_ascii_case("png") {
-        return Err(Failure::usage(format!(
-            "-o: {} does not end in .svg or .png",
-            quoted(out)
-        )));
-    }
-    let open = |path: &Path| -> Result<Model, Failure> {
-        let bytes = read(path)?;
-        if is_tree(&bytes) {
-            return Err(Failure::failed(format!(
-                "{}: this is a tree, draw its point file",
-                quoted(path)
-            )));
-        }
-        Model::open(&bytes).map_err(|refusal| Failure::refused(quoted(path), refusal))
-    };
-    let model = open(path)?;
-    let before = args
-        .option("--before")
-        .map(|other| open(Path::new(other)))
-        .transpose()?;
-    let name = |path: &Path| {
-        path.file_name()
-            .unwrap_or_default()
-            .to_string_lossy()
-            .into_owned()
-    };
-    let title = match (args.option("--title"), args.option("--before")) {
-        (Some(title), _) => title.to_string(),
-        (None, None) => name(path),
-        (None, Some(other)) => format!("{}, held against {}", name(path), name(Path::new(other))),
-    };
+    let (mass, title) = (mass(args)?, title(args)?);
+    let (out, svg) = picture_file(args)?;
+    let now = model(args.path(0))?;
+    let before = args.option_path("--before").map(model).transpose()?;
     let picture = Picture {
-        model: &model,
+        model: &now,
         before: before.as_ref(),
         mass,
         title,
@@ -295,13 +328,11 @@ pub(crate) fn draw(args: &Args) -> Result<(), Failure> {
     } else {
         picture.png()
     };
-    write(
-        out,
-        &bytes.map_err(|error| Failure::failed(format!("--before: {error}")))?,
-    )?;
-    let mut text = format!("{}: {} points drawn", quoted(out), model.len());
+    let not_comparable = |error| Failure::failed(format!("--before: {error}"));
+    write(out, &bytes.map_err(not_comparable)?)?;
+    let mut text = format!("{}: {} points drawn", shown(out), now.len());
     if let Some(before) = &before {
-        let d = difference(before, &model).map_err(|error| Failure::failed(error.to_string()))?;
+        let d = difference(before, &now).map_err(not_comparable)?;
         let _ = write!(
             text,
             "; {} added, {} removed, {} changed",

@@ -5,7 +5,6 @@ mod png;
 mod svg;
 
 use crate::Model;
-use std::collections::{BTreeMap, BTreeSet};
 use std::fmt;
 
 /// Which mass is drawn.
@@ -168,64 +167,145 @@ fn step(extent: f64, count: f64) -> f64 {
     best.unwrap_or(10.0) * power
 }
 
-fn ticks(low: f64, high: f64, count: f64) -> Vec<f64> {
+/// Places on an axis, with their labels.
+fn ticks(low: f64, high: f64, count: f64) -> Vec<(f64, String)> {
     let step = step(high - low, count);
     let first = (low / step - 1e-6).ceil() as i64;
     let last = (high / step + 1e-6).floor() as i64;
-    (first..=last).map(|i| i as f64 * step).collect()
+    let places = (first..=last).map(|i| i as f64 * step);
+    places.map(|place| (place, label(place, step))).collect()
 }
 
-/// A number in a few letters.
-fn label(x: f64) -> String {
+/// The length of the longest label, in dots.
+fn widest(ticks: &[(f64, String)]) -> f64 {
+    LETTER
+        * ticks
+            .iter()
+            .map(|(_, label)| label.len())
+            .max()
+            .unwrap_or(0) as f64
+}
+
+/// As many ticks along an axis from left to right as their labels leave room for.
+fn ticks_across(low: f64, high: f64, size: f64) -> Vec<(f64, String)> {
+    let fits = |ticks: &Vec<(f64, String)>| {
+        let gap = ticks
+            .get(1)
+            .map_or(size, |next| (next.0 - ticks[0].0) / (high - low) * size);
+        widest(ticks) + 10.0 <= gap
+    };
+    let counts = (1..=7).rev().map(f64::from);
+    let mut fitting = counts.map(|count| ticks(low, high, count)).filter(fits);
+    fitting.next().unwrap_or_else(|| {
+        let mut one = ticks(low, high, 1.0);
+        one.truncate(1);
+        one
+    })
+}
+
+fn ticks_upward(low: f64, high: f64, size: f64) -> Vec<(f64, String)> {
+    ticks(low, high, (size / 70.0).clamp(1.0, 7.0))
+}
+
+/// A number in a few letters, yet so many that it differs from one that lies `step` away.
+fn label(x: f64, step: f64) -> String {
     if x == 0.0 {
-        "0".into()
-    } else if x.abs() >= 1e5 || x.abs() < 1e-3 {
-        let text = format!("{x:.2e}");
-        let (digits, power) = text.split_once('e').unwrap_or((&text, "0"));
-        let digits = digits.trim_end_matches('0').trim_end_matches('.');
-        format!("{digits}e{power}")
+        return "0".into();
+    }
+    let trimmed = |digits: &str| match digits.contains('.') {
+        true => digits
+            .trim_end_matches('0')
+            .trim_end_matches('.')
+            .to_string(),
+        false => digits.to_string(),
+    };
+    let power = step.log10().floor();
+    let plain = trimmed(&format!("{x:.*}", (-power).clamp(0.0, 60.0) as usize));
+    let digits = (x.abs().log10().floor() - power).clamp(0.0, 9.0) as usize;
+    let text = format!("{x:.digits$e}");
+    let (digits, power) = text.split_once('e').unwrap_or((&text, "0"));
+    let short = format!("{}e{power}", trimmed(digits));
+    let letters = |text: &str| text.trim_start_matches('-').len();
+    if letters(&plain) <= letters(&short).max(6) {
+        plain
     } else {
-        let text = format!("{x:.3}");
-        text.trim_end_matches('0').trim_end_matches('.').to_string()
+        short
     }
 }
 
-/// Sums along an axis, and what was edited.
+/// A number to four figures.
+fn rounded(x: f64) -> String {
+    label(x, x.abs() / 1000.0)
+}
+
+/// Occupied cells and mass of a column.
+type Sums = (u32, f64);
+
+/// Sums along an axis.
 struct Projection {
     /// The axes to the right and up.
     axes: [usize; 2],
-    /// Occupied cells and mass of each column, by its place.
-    columns: BTreeMap<(u32, u32), (u32, f64)>,
+    /// The columns, row by row from below.
+    columns: Vec<Sums>,
 }
 
 const AXES: [&str; 3] = ["x", "y", "z"];
 
+/// Where things stand in a picture.
 struct Layout {
+    grid: u32,
     /// Dots to a metre.
     scale: f64,
     min: [f64; 3],
     extent: [f64; 3],
+    /// Room for the labels left of a panel.
+    left: f64,
 }
 
-const LEFT: f64 = 92.0;
+/// From one letter to the next: five columns and a gap, each two dots wide.
+const LETTER: f64 = 12.0;
 const GAP: f64 = 22.0;
 const TOP: f64 = 122.0;
 const ROW_GAP: f64 = 118.0;
 const LONGEST: f64 = 440.0;
+/// Of a title that is longer, the rest is left out.
+const TITLE: usize = 200;
 
 impl Layout {
+    fn of(model: &Model) -> Layout {
+        let header = model.header();
+        let [min, max] = [header.min, header.max].map(|corner| corner.map(f64::from));
+        let extent = [0, 1, 2].map(|axis| max[axis] - min[axis]);
+        let mut layout = Layout {
+            grid: header.grid,
+            scale: LONGEST / extent.into_iter().fold(0.0, f64::max),
+            min,
+            extent,
+            left: 0.0,
+        };
+        let labels =
+            [1, 2].map(|axis| widest(&ticks_upward(min[axis], max[axis], layout.size(axis))));
+        layout.left = (labels[0].max(labels[1]) + 20.0).max(92.0);
+        layout
+    }
+
     fn size(&self, axis: usize) -> f64 {
         (self.extent[axis] * self.scale).max(24.0)
     }
 
+    /// The height of a row of panels.
+    fn row(&self) -> f64 {
+        self.size(1).max(self.size(2))
+    }
+
     /// A cell's dots along an axis.
-    fn dots(&self, axis: usize, grid: u32) -> f64 {
-        self.size(axis) / f64::from(grid)
+    fn dots(&self, axis: usize) -> f64 {
+        self.size(axis) / f64::from(self.grid)
     }
 
     /// A column's place in a panel, in whole dots, so that neighbours leave no gap.
-    fn cell(&self, axes: [usize; 2], [column, row]: [u32; 2], grid: u32, area: Rect) -> Rect {
-        let [w, h] = axes.map(|axis| self.dots(axis, grid));
+    fn cell(&self, axes: [usize; 2], [column, row]: [u32; 2], area: Rect) -> Rect {
+        let [w, h] = axes.map(|axis| self.dots(axis));
         let right = |column: u32| (area.x + f64::from(column) * w).round();
         let up = |row: u32| (area.y + area.h - f64::from(row) * h).round();
         let (x, y) = (right(column), up(row + 1));
@@ -235,6 +315,20 @@ impl Layout {
             w: (right(column + 1) - x).max(1.0),
             h: (up(row) - y).max(1.0),
         }
+    }
+
+    /// Columns, row by row, as rectangles: neighbours in a row are one.
+    fn runs(&self, axes: [usize; 2], columns: &[[u32; 2]], area: Rect) -> Vec<Rect> {
+        let follows = |a: &[u32; 2], b: &[u32; 2]| a[1] == b[1] && a[0] + 1 == b[0];
+        let runs = columns.chunk_by(follows).map(|run| {
+            let [first, last] =
+                [run[0], run[run.len() - 1]].map(|cell| self.cell(axes, cell, area));
+            Rect {
+                w: last.x + last.w - first.x,
+                ..first
+            }
+        });
+        runs.collect()
     }
 }
 
@@ -271,61 +365,56 @@ impl Picture<'_> {
         Ok(dots.png())
     }
 
-    fn layout(&self) -> Layout {
-        let header = self.model.header();
-        let min = header.min.map(f64::from);
-        let max = header.max.map(f64::from);
-        let extent = [0, 1, 2].map(|axis| max[axis] - min[axis]);
-        let longest = extent.into_iter().fold(0.0, f64::max);
-        Layout {
-            scale: LONGEST / longest,
-            min,
-            extent,
-        }
-    }
-
     fn facts(&self) -> String {
         let (cauchy, elliptic) = self.model.masses();
-        let [x, y, z] = self.model.header().cell_size().map(label);
+        let [x, y, z] = self.model.header().cell_size().map(rounded);
         format!(
             "grid {}, {} points, Cauchy mass {} kg, elliptic mass {} kg, cell {x} x {y} x {z} m",
             self.model.grid(),
             self.model.len(),
-            label(cauchy),
-            label(elliptic),
+            rounded(cauchy),
+            rounded(elliptic),
         )
     }
 
+    fn title(&self) -> String {
+        match self.title.char_indices().nth(TITLE) {
+            Some((end, _)) => format!("{}...", &self.title[..end]),
+            None => self.title.clone(),
+        }
+    }
+
     fn size(&self) -> [f64; 2] {
-        let layout = self.layout();
-        let letters = self.facts().len().max(self.title.chars().count().min(200));
+        let layout = Layout::of(self.model);
+        let letters = self.facts().len().max(self.title().chars().count());
         let panels = 2.0 * layout.size(0) + layout.size(1);
-        let width = panels + 3.0 * (LEFT + GAP) + 205.0;
-        let row = layout.size(1).max(layout.size(2));
+        let width = panels + 3.0 * (layout.left + GAP) + 205.0;
         let legend = if self.before.is_some() { 44.0 } else { 0.0 };
         [
-            width.max(12.0 * letters as f64 + 48.0),
-            TOP + 2.0 * (row + ROW_GAP) + legend - 20.0,
+            width.max(LETTER * letters as f64 + 48.0),
+            TOP + 2.0 * (layout.row() + ROW_GAP) + legend - 20.0,
         ]
     }
 
     fn projections(&self) -> [Projection; 3] {
-        [[0, 1], [0, 2], [1, 2]].map(|axes| {
-            let mut columns = BTreeMap::new();
-            for point in self.model.points() {
-                let cell = [point.x, point.y, point.z];
-                let mass = match self.mass {
-                    Mass::Cauchy => point.cauchy_mass,
-                    Mass::Elliptic => point.elliptic_mass,
-                };
-                // Rows first, so that neighbours of one colour follow each other.
-                let column: &mut (u32, f64) =
-                    columns.entry((cell[axes[1]], cell[axes[0]])).or_default();
+        let grid = self.model.grid() as usize;
+        let mut projections = [[0, 1], [0, 2], [1, 2]].map(|axes| Projection {
+            axes,
+            columns: vec![(0, 0.0); grid * grid],
+        });
+        for point in self.model.points() {
+            let cell = [point.x, point.y, point.z].map(|index| index as usize);
+            let mass = match self.mass {
+                Mass::Cauchy => point.cauchy_mass,
+                Mass::Elliptic => point.elliptic_mass,
+            };
+            for Projection { axes, columns } in &mut projections {
+                let column = &mut columns[cell[axes[1]] * grid + cell[axes[0]]];
                 column.0 += 1;
                 column.1 += f64::from(mass);
             }
-            Projection { axes, columns }
-        })
+        }
+        projections
     }
 
     fn draw(&self, canvas: &mut impl Canvas) -> Result<(), NotComparable> {
@@ -333,148 +422,98 @@ impl Picture<'_> {
             Some(before) => difference(before, self.model)?,
             None => Difference::default(),
         };
-        let layout = self.layout();
-        let projections = self.projections();
-        canvas.text([24.0, 36.0], Anchor::Start, true, &self.title, INK);
+        let sheet = Sheet {
+            layout: Layout::of(self.model),
+            projections: self.projections(),
+            difference,
+        };
+        canvas.text([24.0, 36.0], Anchor::Start, true, &self.title(), INK);
         canvas.text([24.0, 62.0], Anchor::Start, false, &self.facts(), FAINT);
         let mass = match self.mass {
             Mass::Cauchy => "Cauchy mass",
             Mass::Elliptic => "elliptic mass",
         };
-        let row = layout.size(1).max(layout.size(2));
+        let cells: fn(&Sums) -> f64 = |column| f64::from(column.0);
+        let rows = [
+            (["occupied cells", "cells"], cells),
+            ([mass, "kg"], |column| column.1),
+        ];
         let mut top = TOP;
-        self.row(
-            canvas,
-            &layout,
-            &projections,
-            &difference,
-            top,
-            ["occupied cells", "cells"],
-            |column| f64::from(column.0),
-        );
-        top += row + ROW_GAP;
-        self.row(
-            canvas,
-            &layout,
-            &projections,
-            &difference,
-            top,
-            [mass, "kg"],
-            |column| column.1,
-        );
+        for (names, value) in rows {
+            sheet.row(canvas, top, names, value);
+            top += sheet.layout.row() + ROW_GAP;
+        }
         if self.before.is_some() {
-            let y = top + row + 92.0;
-            let mut x = 34.0;
-            let kinds = [
-                (Kind::Added, "added", difference.added.len()),
-                (Kind::Removed, "removed", difference.removed.len()),
-                (Kind::Changed, "changed", difference.changed.len()),
-            ];
-            for (kind, name, count) in kinds {
-                mark(canvas, kind, [x, y - 6.0], 9.0);
-                let text = format!("{count} {name}");
-                canvas.text([x + 18.0, y], Anchor::Start, false, &text, INK);
-                x += 12.0 * text.len() as f64 + 60.0;
-            }
+            sheet.legend(canvas, top - ROW_GAP + 92.0);
         }
         Ok(())
     }
+}
 
+/// What is drawn, and where.
+struct Sheet {
+    layout: Layout,
+    projections: [Projection; 3],
+    difference: Difference,
+}
+
+impl Sheet {
     /// The three projections of one quantity, side by side, and its colour scale.
-    #[allow(clippy::too_many_arguments)]
-    fn row(
-        &self,
-        canvas: &mut impl Canvas,
-        layout: &Layout,
-        projections: &[Projection; 3],
-        difference: &Difference,
-        top: f64,
-        [name, unit]: [&str; 2],
-        value: impl Fn(&(u32, f64)) -> f64,
-    ) {
-        let values = projections
-            .iter()
-            .flat_map(|p| p.columns.values().map(&value));
-        let (low, high) = values.fold((0.0_f64, 0.0_f64), |(low, high), x| {
-            (low.min(x), high.max(x))
-        });
-        let high = if high > low { high } else { low + 1.0 };
-        let level = |x: f64| (((x - low) / (high - low)) * (LEVELS - 1) as f64).round() as usize;
-        let row = layout.size(1).max(layout.size(2));
-        let mut left = LEFT;
-        for projection in projections {
+    fn row(&self, canvas: &mut impl Canvas, top: f64, names: [&str; 2], value: fn(&Sums) -> f64) {
+        let columns = self.projections.iter().flat_map(|p| &p.columns);
+        let range = columns
+            .map(value)
+            .fold((0.0_f64, 0.0_f64), |(low, high), x| {
+                (low.min(x), high.max(x))
+            });
+        let (low, high) = match range {
+            (low, high) if high > low => (low, high),
+            (low, _) => (low, low + 1.0),
+        };
+        let level = |column: &Sums| {
+            let share = (value(column) - low) / (high - low);
+            ((share * (LEVELS - 1) as f64).round() as usize).min(LEVELS - 1)
+        };
+        let mut left = self.layout.left;
+        for projection in &self.projections {
             let [right, up] = projection.axes;
-            let (w, h) = (layout.size(right), layout.size(up));
+            let (w, h) = (self.layout.size(right), self.layout.size(up));
             // Panels stand on one line.
-            let area = Rect {
-                x: left,
-                y: top + row - h,
-                w,
-                h,
-            };
+            let (x, y) = (left, top + self.layout.row() - h);
+            let area = Rect { x, y, w, h };
             let along = AXES[3 - right - up];
             let heading = format!("{}{} along {along}", AXES[right], AXES[up]);
-            canvas.text([left, area.y - 12.0], Anchor::Start, true, &heading, INK);
+            canvas.text([x, y - 16.0], Anchor::Start, true, &heading, INK);
             canvas.rects(&[area], GROUND);
-            self.axes(canvas, layout, projection.axes, area);
-            self.cells(canvas, layout, projection, area, &value, level);
-            self.marks(canvas, layout, projection.axes, area, difference);
-            left += w + LEFT + GAP;
+            self.axes(canvas, projection.axes, area);
+            self.cells(canvas, projection, area, level);
+            self.marks(canvas, projection.axes, area);
+            left += w + self.layout.left + GAP;
         }
         // The scale stands right of the panels.
         let bar = Rect {
-            x: left - LEFT + 14.0,
+            x: left - self.layout.left + 14.0,
             y: top,
             w: 18.0,
-            h: row,
+            h: self.layout.row(),
         };
-        for level in 0..LEVELS {
-            let h = bar.h / LEVELS as f64;
-            let y = bar.y + bar.h - (level + 1) as f64 * h;
-            canvas.rects(
-                &[Rect {
-                    y,
-                    h: h + 0.5,
-                    ..bar
-                }],
-                level_color(level),
-            );
-        }
-        canvas.text([bar.x, bar.y - 38.0], Anchor::Start, true, name, INK);
-        let each = format!("{unit} a column");
-        canvas.text([bar.x, bar.y - 16.0], Anchor::Start, false, &each, FAINT);
-        let whole = unit == "cells" && high < 5.0;
-        for tick in ticks(low, high, if whole { high.max(1.0) } else { 5.0 }) {
-            let y = bar.y + bar.h - (tick - low) / (high - low) * bar.h;
-            canvas.line([bar.x + bar.w, y], [bar.x + bar.w + 5.0, y], 1.0, INK);
-            canvas.text(
-                [bar.x + bar.w + 10.0, y + 6.0],
-                Anchor::Start,
-                false,
-                &label(tick),
-                INK,
-            );
-        }
+        color_scale(canvas, bar, names, [low, high]);
     }
 
-    fn axes(&self, canvas: &mut impl Canvas, layout: &Layout, [right, up]: [usize; 2], area: Rect) {
+    fn axes(&self, canvas: &mut impl Canvas, [right, up]: [usize; 2], area: Rect) {
         let Rect { x, y, w, h } = area;
-        let place = |axis: usize, tick: f64, size: f64| {
-            (tick - layout.min[axis]) / layout.extent[axis] * size
-        };
-        let end = |axis: usize| layout.min[axis] + layout.extent[axis];
-        let count = |size: f64| (size / 70.0).clamp(1.0, 7.0);
-        for tick in ticks(layout.min[right], end(right), count(w)) {
-            let at = x + place(right, tick, w);
+        let Layout { min, extent, .. } = self.layout;
+        for (tick, label) in ticks_across(min[right], min[right] + extent[right], w) {
+            let at = x + (tick - min[right]) / extent[right] * w;
             canvas.line([at, y], [at, y + h], 1.0, LINE);
             canvas.line([at, y + h], [at, y + h + 5.0], 1.0, INK);
-            canvas.text([at, y + h + 24.0], Anchor::Middle, false, &label(tick), INK);
+            canvas.text([at, y + h + 24.0], Anchor::Middle, false, &label, INK);
         }
-        for tick in ticks(layout.min[up], end(up), count(h)) {
-            let at = y + h - place(up, tick, h);
+        for (tick, label) in ticks_upward(min[up], min[up] + extent[up], h) {
+            let at = y + h - (tick - min[up]) / extent[up] * h;
             canvas.line([x, at], [x + w, at], 1.0, LINE);
             canvas.line([x - 5.0, at], [x, at], 1.0, INK);
-            canvas.text([x - 10.0, at + 6.0], Anchor::End, false, &label(tick), INK);
+            canvas.text([x - 10.0, at + 6.0], Anchor::End, false, &label, INK);
         }
         for [from, to] in [
             [[x, y], [x + w, y]],
@@ -484,91 +523,118 @@ impl Picture<'_> {
         ] {
             canvas.line(from, to, 1.0, FAINT);
         }
-        let names = [right, up].map(|axis| format!("{} [m]", AXES[axis]));
-        canvas.text(
-            [x + w / 2.0, y + h + 48.0],
-            Anchor::Middle,
-            false,
-            &names[0],
-            FAINT,
-        );
-        canvas.text([x - 10.0, y - 12.0], Anchor::End, false, &names[1], FAINT);
+        let [across, upward] = [right, up].map(|axis| format!("{} [m]", AXES[axis]));
+        let below = [x + w / 2.0, y + h + 48.0];
+        canvas.text(below, Anchor::Middle, false, &across, FAINT);
+        canvas.text([x - 10.0, y - 16.0], Anchor::End, false, &upward, FAINT);
     }
 
+    /// The columns with occupied cells, in the colours of their levels.
     fn cells(
         &self,
         canvas: &mut impl Canvas,
-        layout: &Layout,
-        projection: &Projection,
+        Projection { axes, columns }: &Projection,
         area: Rect,
-        value: impl Fn(&(u32, f64)) -> f64,
-        level: impl Fn(f64) -> usize,
+        level: impl Fn(&Sums) -> usize,
     ) {
-        let grid = self.model.grid();
-        let mut rects: Vec<Vec<Rect>> = vec![Vec::new(); LEVELS];
-        let mut last: Option<(u32, u32, usize)> = None;
-        for (&(row, column), sums) in &projection.columns {
-            let level = level(value(sums)).min(LEVELS - 1);
-            let rect = layout.cell(projection.axes, [column, row], grid, area);
-            let same = column > 0 && last == Some((row, column - 1, level));
-            match rects[level].last_mut() {
-                Some(before) if same => before.w = rect.x + rect.w - before.x,
-                _ => rects[level].push(rect),
+        let mut levels: Vec<Vec<[u32; 2]>> = vec![Vec::new(); LEVELS];
+        for (i, column) in (0_u32..).zip(columns) {
+            if column.0 > 0 {
+                levels[level(column)].push([i % self.layout.grid, i / self.layout.grid]);
             }
-            last = Some((row, column, level));
         }
-        for (level, rects) in rects.iter().enumerate() {
-            canvas.rects(rects, level_color(level));
+        for (level, columns) in levels.iter().enumerate() {
+            canvas.rects(&self.layout.runs(*axes, columns, area), level_color(level));
         }
     }
 
     /// A mark on each column with edited cells. Where columns are narrow they take the mark's colour, and the ones that stand alone
     /// have the mark too.
-    fn marks(
-        &self,
-        canvas: &mut impl Canvas,
-        layout: &Layout,
-        axes: [usize; 2],
-        area: Rect,
-        difference: &Difference,
-    ) {
-        let grid = self.model.grid();
-        let [w, h] = axes.map(|axis| layout.dots(axis, grid));
+    fn marks(&self, canvas: &mut impl Canvas, axes: [usize; 2], area: Rect) {
+        let grid = self.layout.grid as usize;
+        let [w, h] = axes.map(|axis| self.layout.dots(axis));
         let narrow = w.min(h) < 8.0;
         let r = (w.min(h) * 0.36).clamp(4.5, 9.0);
-        let kinds = [
-            (Kind::Changed, &difference.changed),
-            (Kind::Added, &difference.added),
-            (Kind::Removed, &difference.removed),
-        ];
-        for (kind, cells) in kinds {
-            let columns: BTreeSet<[u32; 2]> = cells
-                .iter()
-                .map(|cell| axes.map(|axis| cell[axis]))
+        // How many columns a mark reaches over.
+        let reach = [w, h].map(|size| (2.0 * r / size).ceil() as usize);
+        for (kind, _, cells) in self.kinds() {
+            let mut edited = vec![false; grid * grid];
+            for cell in cells {
+                let [column, row] = axes.map(|axis| cell[axis] as usize);
+                edited[row * grid + column] = true;
+            }
+            let places = (0..grid * grid).filter(|&i| edited[i]);
+            let columns: Vec<[u32; 2]> = places
+                .map(|i| [i % grid, i / grid].map(|index| index as u32))
                 .collect();
-            let place = |&column: &[u32; 2]| layout.cell(axes, column, grid, area);
             if narrow {
-                let rects: Vec<Rect> = columns.iter().map(place).collect();
+                let rects = self.layout.runs(axes, &columns, area);
                 canvas.rects(&rects, kind.color());
             }
-            // How many columns a mark reaches over.
-            let [over, up] = [w, h].map(|size| (2.0 * r / size).ceil() as u32);
-            let alone = |&[column, row]: &[u32; 2]| {
-                let near = columns.range([column.saturating_sub(over), 0]..=[column + over, grid]);
-                near.filter(|other| other[1].abs_diff(row) <= up).count() == 1
-            };
-            for column in &columns {
-                if !narrow || alone(column) {
-                    let rect = place(column);
-                    mark(
-                        canvas,
-                        kind,
-                        [rect.x + rect.w / 2.0, rect.y + rect.h / 2.0],
-                        r,
-                    );
+            for column in columns {
+                if !narrow || alone(&edited, grid, column, reach) {
+                    let Rect { x, y, w, h } = self.layout.cell(axes, column, area);
+                    mark(canvas, kind, [x + w / 2.0, y + h / 2.0], r);
                 }
             }
         }
+    }
+
+    /// What can have been done to cells, its name, and the cells. Later marks stand over earlier ones.
+    fn kinds(&self) -> [(Kind, &'static str, &[[u32; 3]]); 3] {
+        [
+            (Kind::Changed, "changed", &self.difference.changed),
+            (Kind::Added, "added", &self.difference.added),
+            (Kind::Removed, "removed", &self.difference.removed),
+        ]
+    }
+
+    fn legend(&self, canvas: &mut impl Canvas, y: f64) {
+        let mut x = 34.0;
+        let [changed, added, removed] = self.kinds();
+        for (kind, name, cells) in [added, removed, changed] {
+            mark(canvas, kind, [x, y - 6.0], 9.0);
+            let text = format!("{} {name}", cells.len());
+            canvas.text([x + 18.0, y], Anchor::Start, false, &text, INK);
+            x += LETTER * text.len() as f64 + 60.0;
+        }
+        let words = "cells; each column with one is marked";
+        canvas.text([x - 12.0, y], Anchor::Start, false, words, FAINT);
+    }
+}
+
+/// Whether no other edited column lies within reach of a mark.
+fn alone(edited: &[bool], grid: usize, place: [u32; 2], reach: [usize; 2]) -> bool {
+    let [column, row] = place.map(|index| index as usize);
+    let near = |at: usize, reach: usize| at.saturating_sub(reach)..=(at + reach).min(grid - 1);
+    near(row, reach[1]).all(|other_row| {
+        near(column, reach[0])
+            .all(|other| (other, other_row) == (column, row) || !edited[other_row * grid + other])
+    })
+}
+
+/// A bar of all levels with its values.
+fn color_scale(
+    canvas: &mut impl Canvas,
+    bar: Rect,
+    [name, unit]: [&str; 2],
+    [low, high]: [f64; 2],
+) {
+    let h = bar.h / LEVELS as f64;
+    for level in 0..LEVELS {
+        let y = bar.y + bar.h - (level + 1) as f64 * h;
+        let h = h + 0.5;
+        canvas.rects(&[Rect { y, h, ..bar }], level_color(level));
+    }
+    canvas.text([bar.x, bar.y - 38.0], Anchor::Start, true, name, INK);
+    let each = format!("{unit} a column");
+    canvas.text([bar.x, bar.y - 16.0], Anchor::Start, false, &each, FAINT);
+    let whole = unit == "cells" && high < 5.0;
+    let right = bar.x + bar.w;
+    for (tick, label) in ticks(low, high, if whole { high.max(1.0) } else { 5.0 }) {
+        let y = bar.y + bar.h - (tick - low) / (high - low) * bar.h;
+        canvas.line([right, y], [right + 5.0, y], 1.0, INK);
+        canvas.text([right + 10.0, y + 6.0], Anchor::Start, false, &label, INK);
     }
 }
 
@@ -609,5 +675,44 @@ fn mark(canvas: &mut impl Canvas, kind: Kind, [x, y]: [f64; 2], r: f64) {
         for &[from, to] in &lines {
             canvas.line(from, to, width, color);
         }
+    }
+}
+
+#[cfg(test)]
+mod tests {
+    use super::*;
+
+    /// Labels differ from each other, say their place, and do not touch.
+    #[test]
+    fn labels_tell_places_apart() {
+        for (low, high) in [
+            (-733.0, 733.0),
+            (999_000.0, 1e6),
+            (-999_999.0, -999_998.0),
+            (0.0, 2.0),
+            (0.0, 3e9),
+            (-2e-38, 1e-38),
+            (-3e38, 3e38),
+        ] {
+            for size in [24.0, 100.0, 271.0, 440.0] {
+                let across = ticks_across(low, high, size);
+                assert!(across.len() < 2 || widest(&across) <= size, "{across:?}");
+                let upward = ticks_upward(low, high, size);
+                for ticks in [&across, &upward] {
+                    assert!(
+                        ticks.windows(2).all(|two| two[0].1 != two[1].1),
+                        "{ticks:?}"
+                    );
+                    let near = |(place, label): &(f64, String)| {
+                        let read: f64 = label.parse().unwrap();
+                        (read - place).abs() <= (high - low) * 1e-3
+                    };
+                    assert!(ticks.iter().all(near), "{ticks:?}");
+                }
+            }
+        }
+        assert_eq!(label(-250_000.0, 200.0), "-250000");
+        assert_eq!(label(2.5e9, 5e8), "2.5e9");
+        assert_eq!(rounded(45.811_874), "45.81");
     }
 }

@@ -1,6 +1,6 @@
 //! Pictures as PNG: dots in memory, deflate with fixed Huffman codes, checksums.
 
-use super::{font, Anchor, Canvas, Color, Rect};
+use super::{font, Anchor, Canvas, Color, Rect, LETTER};
 
 /// A picture of dots.
 pub(super) struct Dots {
@@ -8,9 +8,6 @@ pub(super) struct Dots {
     height: usize,
     dots: Vec<u8>,
 }
-
-/// From one letter to the next: five columns and a gap, each two dots wide.
-const ADVANCE: f64 = 12.0;
 
 impl Dots {
     pub(super) fn new(width: f64, height: f64) -> Dots {
@@ -120,14 +117,14 @@ impl Canvas for Dots {
     }
 
     fn text(&mut self, at: [f64; 2], anchor: Anchor, bold: bool, text: &str, color: Color) {
-        let width = ADVANCE * text.chars().count() as f64 - 2.0;
+        let width = LETTER * text.chars().count() as f64 - 2.0;
         let left = match anchor {
             Anchor::Start => at[0],
             Anchor::Middle => at[0] - width / 2.0,
             Anchor::End => at[0] - width,
         };
         for (i, letter) in text.chars().enumerate() {
-            let x = (left + ADVANCE * i as f64).round() as i64;
+            let x = (left + LETTER * i as f64).round() as i64;
             let y = at[1].round() as i64 - 14;
             self.letter(letter, x, y, color);
             if bold {

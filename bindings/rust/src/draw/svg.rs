@@ -7,8 +7,10 @@ pub(super) struct Svg {
     text: String,
 }
 
+/// Text as XML takes it; control characters, which it does not take, become spaces.
 fn escaped(text: &str) -> String {
-    text.replace('&', "&amp;")
+    text.replace(char::is_control, " ")
+        .replace('&', "&amp;")
         .replace('<', "&lt;")
         .replace('>', "&gt;")
 }
