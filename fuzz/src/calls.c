@@ -11,12 +11,12 @@
 #define MOST_LIST 8192u
 #define MOST_TREE (64 + 80 * 2 * MOST_SCRATCH + 4 * MOST_SCRATCH)
 
-uint64_t calls_made, calls_accepted;
+uint64_t calls_made[CALLS], calls_accepted[CALLS];
 
 static Lent file, scratch, out, journal, triangles, kernels[2], floats;
 static uint8_t want[MOST_TREE], want_journal[4 * MOST_JOURNAL], input_file[MOST_FILE], opened[MOST_OUT];
 static uint32_t lookup[MOST_SCRATCH], order[MOST_SCRATCH];
-static uint64_t keys[MOST_FILE / 16];
+static uint64_t keys[MOST_OUT / 16];
 static Mesh mesh;
 
 static void ready(const char *call_name) {
@@ -33,6 +33,11 @@ static void ready(const char *call_name) {
     make_lent(&kernels[0], "Cauchy kernels", MOST_LIST);
     make_lent(&kernels[1], "elliptic kernels", MOST_LIST);
     make_lent(&floats, "floats", 8 * 256);
+}
+
+static void count(int call, bool accepted) {
+    calls_made[call]++;
+    calls_accepted[call] += accepted;
 }
 
 static void lend_bytes(Lent *lent, const uint8_t *bytes, size_t length, bool at_end) {
@@ -71,14 +76,13 @@ static uint64_t open_checked(void) {
     uint64_t right = rule_open(file.at, file.length, scratch.length / 4, out.length, journal.length / 4, want, keys);
     uint64_t answer = mascon_open(file.at, file.length, (uint32_t *)scratch.at, scratch.length / 4, out.at, out.length,
                                   (uint32_t *)journal.at, journal.length / 4);
-    calls_made++;
+    count(CALL_open, answer >= 64);
     check_only_read(&file);
     check_canaries(&scratch);
     check_canaries(&out);
     check_canaries(&journal);
     check_possible(answer, CAUSES_1_TO_7 | CAUSE(8) | CAUSE(9) | CAUSE(13), out.length, 16);
     check_answer(answer, right);
-    calls_accepted += answer >= 64;
     if (answer < 64) {
         check_kept(&out, 0, "refused");
         check_kept(&journal, 0, "refused");
@@ -100,13 +104,12 @@ static uint64_t build_checked(void) {
     uint64_t nodes, ordered;
     uint64_t right = rule_build(file.at, file.length, scratch.length / 4, out.length, want, lookup, order, &nodes, &ordered);
     MasconBuilt built = mascon_build(file.at, file.length, (uint32_t *)scratch.at, scratch.length / 4, out.at, out.length);
-    calls_made++;
+    count(CALL_build, built.answer >= 64);
     check_only_read(&file);
     check_canaries(&scratch);
     check_canaries(&out);
     check_possible(built.answer, CAUSES_1_TO_7 | CAUSE(8) | CAUSE(9), out.length, 4);
     check_answer(built.answer, right);
-    calls_accepted += built.answer >= 64;
     if (built.nodes != nodes || built.order != ordered)
         fail("%llu nodes and %llu order words, not %llu and %llu", (unsigned long long)built.nodes, (unsigned long long)built.order,
              (unsigned long long)nodes, (unsigned long long)ordered);
@@ -154,8 +157,7 @@ void case_narrow(const uint8_t *bytes, size_t length) {
         double x;
         memcpy(&x, &bits, 8);
         uint64_t answer = mascon_narrow(x);
-        calls_made++;
-        calls_accepted += 2;
+        count(CALL_narrow, true);
         if (answer >> 32) fail("0x%llx for 0x%016llx", (unsigned long long)answer, (unsigned long long)bits);
         check_answer(answer, rule_narrow(x));
         float near = (float)x;
@@ -163,7 +165,7 @@ void case_narrow(const uint8_t *bytes, size_t length) {
         memcpy(&machine, &near, 4);
         if (x == x && answer != machine) fail("0x%08llx for 0x%016llx, the machine has 0x%08x", (unsigned long long)answer, (unsigned long long)bits, machine);
         uint64_t negative = mascon_narrow(-x);
-        calls_made++;
+        count(CALL_narrow, true);
         if (x == x ? negative != (answer ^ 0x80000000u) : negative != answer) fail("0x%08llx for the negative of 0x%016llx", (unsigned long long)negative, (unsigned long long)bits);
     } while (in.at < in.end);
 }
@@ -187,14 +189,55 @@ void case_inside(const uint8_t *bytes, size_t length) {
         keep(&floats);
         uint64_t right = rule_inside(&mesh, list, list_length, point, lent);
         uint64_t answer = mascon_inside(triangles.at, triangles.length, point[0], point[1], point[2], (double *)floats.at, lent);
-        calls_made++;
+        count(CALL_inside, answer <= 1);
         check_only_read(&triangles);
         check_canaries(&floats);
         if (answer != 0 && answer != 1 && answer != 17 && answer != 8) fail("no call of this name may answer %llu", (unsigned long long)answer);
         check_answer(answer, right);
-        calls_accepted += answer <= 1;
         if (answer > 1) check_kept(&floats, 0, "refused");
     }
+}
+
+/* The lists of a fill, lent. Those that are only read may be the same: bit 2, both lists of kernels; bit 4, the Cauchy kernels and the mesh. */
+static void lend_lists(In *in, uint8_t flags, Body *body, const Lent *lists[2]) {
+    static uint8_t list[MOST_LIST];
+    bool at_end = flags & 1;
+    lend_bytes(&triangles, list, mesh_list(in, list, MOST_LIST), at_end);
+    body->triangles = triangles.was;
+    body->triangles_length = triangles.length;
+    lists[0] = flags & 16 ? &triangles : &kernels[0];
+    lists[1] = flags & 4 ? lists[0] : &kernels[1];
+    for (int k = 0; k < 2; k++) {
+        if (lists[k] == &kernels[k]) lend_bytes(&kernels[k], list, kernel_list(in, list, MOST_LIST), at_end);
+        body->kernels[k] = lists[k]->was;
+        body->kernels_length[k] = lists[k]->length;
+    }
+}
+
+/* Fills into `out`, with `floats` as lent, and checks all of it. */
+static uint64_t fill_checked(const Body *body, const Lent *lists[2]) {
+    uint64_t right = rule_fill(&mesh, body, floats.length / 8, out.length, want);
+    uint64_t answer = mascon_fill(body->g, triangles.at, triangles.length, lists[0]->at, lists[0]->length, lists[1]->at, lists[1]->length,
+                                  body->target, body->density, (double *)floats.at, floats.length / 8, out.at, out.length);
+    count(CALL_fill, answer >= 64);
+    check_only_read(&triangles);
+    check_only_read(lists[0]);
+    check_only_read(lists[1]);
+    check_canaries(&floats);
+    check_canaries(&out);
+    check_possible(answer, CAUSE(3) | CAUSE(17) | CAUSE(8) | CAUSE(9) | CAUSE(19) | CAUSE(18) | CAUSE(20), out.length, 16);
+    check_answer(answer, right);
+    if (answer == 3 || answer == 17 || answer == 8) check_kept(&floats, 0, "refused by 3, 17 or 8");
+    if (answer == 18 || answer == 20) {
+        memset(want, 0, out.length);
+        check_bytes(&out, want, 0, out.length, "refused by 18 or 20");
+    } else if (answer < 64) {
+        check_kept(&out, 0, "refused");
+    } else {
+        check_bytes(&out, want, 0, answer, "written");
+        check_kept(&out, answer, "past the length");
+    }
+    return answer;
 }
 
 void case_fill(const uint8_t *bytes, size_t length) {
@@ -202,54 +245,23 @@ void case_fill(const uint8_t *bytes, size_t length) {
     In in = {bytes, bytes + length};
     uint8_t flags = u8(&in);
     bool at_end = flags & 1;
-    static uint8_t list[MOST_LIST];
     Body body = {.g = flags & 2 ? u32(&in) : grid(&in)};
+    const Lent *lists[2];
+    lend_lists(&in, flags, &body, lists);
     double last = 0;
-    size_t list_length = mesh_list(&in, list, MOST_LIST);
-    lend_bytes(&triangles, list, list_length, at_end);
-    body.triangles = triangles.was;
-    body.triangles_length = list_length;
-    // lists that are only read may be the same: bit 2, both lists of kernels; bit 4, the Cauchy kernels and the mesh
-    const Lent *lists[2] = {flags & 16 ? &triangles : &kernels[0], &kernels[1]};
-    for (int k = 0; k < 2; k++) {
-        if (k == 1 && flags & 4) lists[1] = lists[0];
-        if (lists[k] == &kernels[k]) lend_bytes(&kernels[k], list, kernel_list(&in, list, MOST_LIST), at_end);
-        body.kernels[k] = lists[k]->was;
-        body.kernels_length[k] = lists[k]->length;
-    }
     body.target = number(&in, &last);
     body.density = number(&in, &last);
-    size_t lent = length_near(&in, list_length / 72, 256);
+    size_t lent = length_near(&in, triangles.length / 72, 256);
     uint64_t need = body.g >= 1 && body.g <= 12 ? rule_needed(body.g) : 64;
     size_t room = length_near(&in, need, 65536);
     if (body.g > 12 && body.g <= 256 && room >= rule_needed(body.g)) room = 64; // the larger ones take too long
     lend_junk(&floats, 8 * lent, at_end, 1);
     lend_junk(&out, room, at_end, 2);
-    uint64_t right = rule_fill(&mesh, &body, lent, room, want);
-    uint64_t answer = mascon_fill(body.g, triangles.at, triangles.length, lists[0]->at, lists[0]->length, lists[1]->at, lists[1]->length,
-                                  body.target, body.density, (double *)floats.at, lent, out.at, room);
-    calls_made++;
-    check_only_read(&triangles);
-    check_only_read(lists[0]);
-    check_only_read(lists[1]);
-    check_canaries(&floats);
-    check_canaries(&out);
-    check_possible(answer, CAUSE(3) | CAUSE(17) | CAUSE(8) | CAUSE(9) | CAUSE(19) | CAUSE(18) | CAUSE(20), room, 16);
-    check_answer(answer, right);
-    calls_accepted += answer >= 64;
-    if (answer == 3 || answer == 17 || answer == 8) check_kept(&floats, 0, "refused by 3, 17 or 8");
-    if (answer == 18 || answer == 20) {
-        memset(want, 0, room);
-        check_bytes(&out, want, 0, room, "refused by 18 or 20");
-    } else if (answer < 64) {
-        check_kept(&out, 0, "refused");
-    } else {
-        check_bytes(&out, want, 0, answer, "written");
-        check_kept(&out, answer, "past the length");
-        memcpy(opened, out.at, answer);
-        reopens(opened, answer, at_end);
-        if (flags & 8) builds(opened, answer, at_end);
-    }
+    uint64_t answer = fill_checked(&body, lists);
+    if (answer < 64) return;
+    memcpy(opened, out.at, answer);
+    reopens(opened, answer, at_end);
+    if (flags & 8) builds(opened, answer, at_end);
 }
 
 void case_open(const uint8_t *bytes, size_t length) {
@@ -293,7 +305,6 @@ void case_build(const uint8_t *bytes, size_t length) {
 }
 
 static uint64_t edit_call(const Edit *edit, size_t file_length, size_t words) {
-    calls_made++;
     float masses[2];
     memcpy(&masses[0], &edit->cauchy, 4);
     memcpy(&masses[1], &edit->elliptic, 4);
@@ -316,11 +327,11 @@ static uint64_t edit_checked(const Edit *edit, size_t file_length, size_t words)
     memcpy(want_journal, journal.at, journal.length);
     uint64_t right = rule_edit(want, file_length, want_journal, words, edit);
     uint64_t answer = edit_call(edit, file_length, words);
+    count(edit->kind == PUT ? CALL_put : edit->kind == REMOVE ? CALL_remove : CALL_undo, answer >= 64);
     check_canaries(&file);
     check_canaries(&journal);
     check_possible(answer, CAUSES_1_TO_7 | CAUSE(10) | CAUSE(11) | causes[edit->kind], file_length, 16);
     check_answer(answer, right);
-    calls_accepted += answer >= 64;
     check_bytes(&file, want, 0, file.length, answer < 64 ? "refused" : "edited");
     check_bytes(&journal, want_journal, 0, journal.length, answer < 64 ? "refused" : "entered");
     under_test = before;
@@ -365,6 +376,49 @@ void case_put(const uint8_t *bytes, size_t length) { ready("put"); case_edit(byt
 void case_remove(const uint8_t *bytes, size_t length) { ready("remove"); case_edit(bytes, length, REMOVE); }
 void case_undo(const uint8_t *bytes, size_t length) { ready("undo"); case_edit(bytes, length, UNDO); }
 
+/* Opens a file into a buffer with so many bytes to spare. Answers the length, below 64 where it is refused. */
+static uint64_t open_to_edit(In *in, size_t spare, size_t words, uint8_t flags) {
+    bool at_end = flags & 1;
+    size_t file_length = point_file(in, input_file, MOST_FILE);
+    bool judged = rule_judge(input_file, file_length) == 0;
+    uint64_t cells = judged ? cube(get32(input_file + 8)) : 1, occupied = judged ? rule_occupied(input_file, keys) : 0;
+    bool held = cells <= MOST_SCRATCH;
+    lend_bytes(&file, input_file, file_length, at_end);
+    lend_junk(&scratch, 4 * (held ? cells : MOST_SCRATCH), at_end, 1);
+    lend_junk(&out, 64 + 16 * occupied + spare, at_end, flags);
+    lend_junk(&journal, 4 * words, at_end, 3);
+    uint64_t answer = open_checked();
+    if (answer < 64 && judged && held) fail("an accepted file is refused");
+    return answer;
+}
+
+/* The edited file opens to itself and builds; then it and its journal are lent again. */
+static void edited_is_good(bool at_end) {
+    static uint8_t edited[MOST_OUT], kept_journal[4 * MOST_JOURNAL];
+    size_t whole = file.length, kept_length = journal.length;
+    uint64_t now = rule_length(file.at);
+    memcpy(edited, file.at, whole);
+    memcpy(kept_journal, journal.at, kept_length);
+    reopens(edited, now, at_end);
+    builds(edited, now, at_end);
+    lend_bytes(&file, edited, whole, at_end);
+    lend_bytes(&journal, kept_journal, kept_length, at_end);
+}
+
+/* A call on what open and earlier calls left, with so many entries. Answers how many there are then. */
+static uint32_t history_call(const Call *next, uint32_t entries) {
+    bool undo = next->edit.kind == UNDO;
+    size_t lent = less(file.length, next->less_file), lent_words = less(journal.length / 4, next->less_journal);
+    uint64_t answer = edit_checked(&next->edit, lent, lent_words);
+    if (undo && !next->shorter && answer < 64 && (answer != 15 || entries)) fail("undo of %u entries answers %llu", entries, (unsigned long long)answer);
+    if (next->undone && !undo)
+        undone_at_once(answer, lent, lent_words);
+    else if (answer >= 64)
+        entries = undo ? entries - 1 : entries + 1;
+    if (get32(journal.at) != entries) fail("journal[0] is %u, not %u", get32(journal.at), entries);
+    return entries;
+}
+
 /* A file opened, a list of edits on what open left, then every entry undone: the file is as open wrote it. */
 void case_history(const uint8_t *bytes, size_t length) {
     ready("history");
@@ -373,43 +427,16 @@ void case_history(const uint8_t *bytes, size_t length) {
     bool at_end = flags & 1;
     size_t spare = u8(&in), words = 1 + u8(&in);
     if (flags & 2) spare *= 16;
-    size_t file_length = point_file(&in, input_file, MOST_FILE);
-    if (rule_judge(input_file, file_length)) return;
-    uint64_t cells = cube(get32(input_file + 8));
-    if (cells > MOST_SCRATCH) return;
-    uint64_t occupied = rule_occupied(input_file, keys);
-    lend_bytes(&file, input_file, file_length, at_end);
-    lend_junk(&scratch, 4 * cells, at_end, 1);
-    lend_junk(&out, 64 + 16 * occupied + spare, at_end, flags);
-    lend_junk(&journal, 4 * words, at_end, 3);
-    uint64_t opened_length = open_checked();
-    if (opened_length < 64) fail("an accepted file is refused");
-    static uint8_t as_opened[MOST_OUT], edited[MOST_OUT];
+    uint64_t opened_length = open_to_edit(&in, spare, words, flags);
+    if (opened_length < 64) return;
+    static uint8_t as_opened[MOST_OUT];
     memcpy(as_opened, out.at, out.length);
     lend_bytes(&file, as_opened, out.length, at_end); // the whole buffer that open wrote into
     uint32_t entries = 0;
     for (int calls = 0; in.at < in.end && calls < 64; calls++) {
         Call next = call(&in, file.at, file.length);
-        size_t lent = less(file.length, next.less_file), lent_words = less(journal.length / 4, next.less_journal);
-        uint64_t answer = edit_checked(&next.edit, lent, lent_words);
-        if (next.edit.kind == UNDO && !next.shorter && answer < 64 && (answer != 15 || entries)) fail("undo of %u entries answers %llu", entries, (unsigned long long)answer);
-        if (next.undone && next.edit.kind != UNDO)
-            undone_at_once(answer, lent, lent_words);
-        else if (answer >= 64)
-            entries = next.edit.kind == UNDO ? entries - 1 : entries + 1;
-        if (get32(journal.at) != entries) fail("journal[0] is %u, not %u", get32(journal.at), entries);
-        if (next.built && calls < 8) { // the edited file opens to itself and builds
-            size_t whole = file.length;
-            uint64_t now = rule_length(file.at);
-            static uint8_t kept_journal[4 * MOST_JOURNAL];
-            memcpy(edited, file.at, whole);
-            memcpy(kept_journal, journal.at, journal.length);
-            size_t kept_length = journal.length;
-            reopens(edited, now, at_end);
-            builds(edited, now, at_end);
-            lend_bytes(&file, edited, whole, at_end);
-            lend_bytes(&journal, kept_journal, kept_length, at_end);
-        }
+        entries = history_call(&next, entries);
+        if (next.built && calls < 8) edited_is_good(at_end);
     }
     const Edit undo = {.kind = UNDO};
     for (; entries > 0; entries--)

@@ -11,6 +11,9 @@
 
 #define PROCESSES 2
 #define MOST 2048u
+#define DONE 42       // exit status of a process that made all its cases; a call that exits gives another
+#define LEAST 100u    // cases, so that every target has some
+#define PATIENCE 120u // seconds for a thousand cases; a call that does not come back ends the process
 
 typedef struct {
     const char *name;
@@ -19,13 +22,16 @@ typedef struct {
 } Target;
 
 static const Target targets[] = {
-    {"narrow", case_narrow, 20}, {"inside", case_inside, 14}, {"fill", case_fill, 4},      {"open", case_open, 14},      {"build", case_build, 12},
-    {"put", case_put, 10},       {"remove", case_remove, 10}, {"undo", case_undo, 10}, {"history", case_history, 6},
+    {"narrow", case_narrow, 10}, {"inside", case_inside, 14}, {"fill", case_fill, 10}, {"open", case_open, 12},       {"build", case_build, 12},
+    {"put", case_put, 10},       {"remove", case_remove, 10}, {"undo", case_undo, 10}, {"history", case_history, 12},
 };
 #define TARGETS (sizeof targets / sizeof *targets)
 
+#define NAME(name) #name,
+static const char *const call_names[CALLS] = {EACH_CALL(NAME)};
+
 typedef struct {
-    uint64_t cases[TARGETS], calls[TARGETS], accepted[TARGETS];
+    uint64_t cases[TARGETS], made[CALLS], accepted[CALLS];
     size_t target, length; // the case at hand
     uint64_t number;
     uint8_t bytes[MOST];
@@ -122,7 +128,7 @@ static size_t generated(const Target *target, const Corpus *corpus, uint8_t *byt
         return 8;
     }
     uint64_t way = below(4);
-    if (way < 2 && corpus->count) return mutated(corpus, bytes);
+    if (way < 2) return mutated(corpus, bytes);
     size_t length = 4 + below(below(4) ? 120 : 400);
     bool calm = way != 3; // zeros and small bytes
     for (size_t i = 0; i < length; i++) {
@@ -135,19 +141,26 @@ static size_t generated(const Target *target, const Corpus *corpus, uint8_t *byt
     return length;
 }
 
+/* Cases of a target: its share of the whole; the shares add up to it. */
+static uint64_t cases_of(size_t target, uint64_t whole) {
+    unsigned before = 0;
+    for (size_t t = 0; t < target; t++) before += targets[t].share;
+    return whole * (before + targets[target].share) / 100 - whole * before / 100;
+}
+
 static void work(Report *report, const Corpus *corpora, uint64_t whole, unsigned process) {
     for (size_t t = 0; t < TARGETS; t++) {
-        uint64_t cases = whole * targets[t].share / 100;
+        uint64_t cases = cases_of(t, whole);
         report->target = t;
         for (uint64_t i = process; i < cases; i += PROCESSES) {
+            if (report->cases[t] % 1000 == 0) alarm(PATIENCE);
             state = (i << 4 | t) * 0x2545f4914f6cdd1du;
             report->number = i;
             report->length = generated(&targets[t], &corpora[t], report->bytes);
-            uint64_t before = calls_made, accepted = calls_accepted;
             targets[t].make(report->bytes, report->length);
-            report->calls[t] += calls_made - before;
-            report->accepted[t] += calls_accepted - accepted;
             report->cases[t]++;
+            memcpy(report->made, calls_made, sizeof calls_made);
+            memcpy(report->accepted, calls_accepted, sizeof calls_accepted);
         }
     }
 }
@@ -165,51 +178,79 @@ static const char *grouped(uint64_t n) {
     return text;
 }
 
-int main(int count, char **words) {
-    if (count != 4) return fprintf(stderr, "cases N CORPUS FAILURES\n"), 2;
-    uint64_t whole = strtoull(words[1], NULL, 10);
-    Corpus corpora[TARGETS];
-    for (size_t t = 0; t < TARGETS; t++) corpora[t] = corpus_of(words[2], targets[t].name);
-    Report *reports = mmap(NULL, PROCESSES * sizeof *reports, PROT_READ | PROT_WRITE, MAP_SHARED | MAP_ANONYMOUS, -1, 0);
-    if (reports == MAP_FAILED) return 2;
-    pid_t processes[PROCESSES];
-    for (unsigned p = 0; p < PROCESSES; p++) {
-        processes[p] = fork();
-        if (processes[p] < 0) return 2;
-        if (processes[p] == 0) {
-            work(&reports[p], corpora, whole, p);
-            _exit(0);
-        }
+/* Tells of the case at which a process ended, and keeps its input. */
+static void tell_failure(const Report *report, int status, const char *folder) {
+    const char *target = targets[report->target].name;
+    char path[4096];
+    snprintf(path, sizeof path, "%s/%s-case-%llu", folder, target, (unsigned long long)report->number);
+    FILE *file = fopen(path, "wb");
+    if (file) {
+        fwrite(report->bytes, 1, report->length, file);
+        fclose(file);
     }
-    unsigned failures[TARGETS] = {0}, failed = 0;
-    for (unsigned p = 0; p < PROCESSES; p++) {
-        int status;
-        waitpid(processes[p], &status, 0);
-        if (WIFEXITED(status) && WEXITSTATUS(status) == 0) continue;
-        Report *report = &reports[p];
-        char path[4096];
-        snprintf(path, sizeof path, "%s/%s-case-%llu", words[3], targets[report->target].name, (unsigned long long)report->number);
-        FILE *file = fopen(path, "wb");
-        if (file) {
-            fwrite(report->bytes, 1, report->length, file);
-            fclose(file);
-        }
-        fprintf(stderr, "%s: case %llu failed; input in %s\n", targets[report->target].name, (unsigned long long)report->number, path);
-        failures[report->target]++;
-        failed++;
-    }
+    fprintf(stderr, "%s: case %llu failed (%s); input in %s\n", target, (unsigned long long)report->number,
+            WIFSIGNALED(status) ? strsignal(WTERMSIG(status)) : "exited", path);
+}
+
+/* Prints what was made; answers how many cases. */
+static uint64_t print_counts(const Report *reports, const unsigned *failures, unsigned failed) {
     uint64_t cases = 0, calls = 0;
     for (size_t t = 0; t < TARGETS; t++) {
-        uint64_t of[3] = {0};
+        uint64_t of = 0;
+        for (unsigned p = 0; p < PROCESSES; p++) of += reports[p].cases[t];
+        printf("%s: %s cases, %u failures\n", targets[t].name, grouped(of), failures[t]);
+        cases += of;
+    }
+    for (size_t c = 0; c < CALLS; c++) {
+        uint64_t made = 0, accepted = 0;
         for (unsigned p = 0; p < PROCESSES; p++) {
-            of[0] += reports[p].cases[t];
-            of[1] += reports[p].calls[t];
-            of[2] += reports[p].accepted[t];
+            made += reports[p].made[c];
+            accepted += reports[p].accepted[c];
         }
-        cases += of[0];
-        calls += of[1];
-        printf("%s: %s cases, %s calls, %s of them accepted, %u failures\n", targets[t].name, grouped(of[0]), grouped(of[1]), grouped(of[2]), failures[t]);
+        printf("mascon_%s: %s calls, %s of them accepted\n", call_names[c], grouped(made), grouped(accepted));
+        calls += made;
     }
     printf("total: %s cases, %s calls, %u failures\n", grouped(cases), grouped(calls), failed);
-    return failed != 0;
+    return cases;
+}
+
+/* Starts the processes and waits for them; answers how many failed. */
+static unsigned share_out(Report *reports, const Corpus *corpora, uint64_t whole, unsigned *failures, const char *folder) {
+    pid_t processes[PROCESSES];
+    unsigned failed = 0;
+    for (unsigned p = 0; p < PROCESSES; p++) {
+        processes[p] = fork();
+        if (processes[p] < 0) exit(2);
+        if (processes[p] == 0) {
+            work(&reports[p], corpora, whole, p);
+            _exit(DONE);
+        }
+    }
+    for (unsigned p = 0; p < PROCESSES; p++) {
+        int status;
+        if (waitpid(processes[p], &status, 0) < 0) exit(2);
+        if (WIFEXITED(status) && WEXITSTATUS(status) == DONE) continue;
+        tell_failure(&reports[p], status, folder);
+        failures[reports[p].target]++;
+        failed++;
+    }
+    return failed;
+}
+
+int main(int count, char **words) {
+    char *end = NULL;
+    uint64_t whole = count == 4 && words[1][0] >= '0' && words[1][0] <= '9' ? strtoull(words[1], &end, 10) : 0;
+    if (whole < LEAST || *end) return fprintf(stderr, "cases N CORPUS FAILURES, N from %u up\n", LEAST), 2;
+    Corpus corpora[TARGETS];
+    for (size_t t = 0; t < TARGETS; t++) {
+        corpora[t] = corpus_of(words[2], targets[t].name);
+        if (!corpora[t].count) return fprintf(stderr, "no inputs in %s/%s\n", words[2], targets[t].name), 2;
+    }
+    Report *reports = mmap(NULL, PROCESSES * sizeof *reports, PROT_READ | PROT_WRITE, MAP_SHARED | MAP_ANONYMOUS, -1, 0);
+    if (reports == MAP_FAILED) return 2;
+    unsigned failures[TARGETS] = {0};
+    unsigned failed = share_out(reports, corpora, whole, failures, words[3]);
+    uint64_t made = print_counts(reports, failures, failed);
+    if (!failed && made != whole) fprintf(stderr, "%s cases are missing\n", grouped(whole - made));
+    return failed || made != whole;
 }

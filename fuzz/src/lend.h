@@ -13,7 +13,6 @@
 
 #define PAGE 4096u
 #define CANARIES 64u
-#define CANARY 0xc5
 
 // The call under test, for the message.
 static const char *under_test = "";
@@ -38,27 +37,33 @@ typedef struct {
     uint8_t *was;  // its bytes as they were lent
 } Lent;
 
-// Bytes that repeat only after a long way, for what stands in a buffer beforehand.
-static uint8_t junk[1u << 16];
+// Bytes that repeat only after a long way, for what stands in a buffer beforehand. Canaries differ from each other, so that one moved over
+// another is seen.
+static uint8_t junk[1u << 16], canaries[CANARIES];
 
-static void make_junk(void) {
-    uint64_t state = 0x9e3779b97f4a7c15u;
-    for (size_t i = 0; i < sizeof junk; i++) {
+static void fill_any(uint8_t *bytes, size_t length, uint64_t state) {
+    for (size_t i = 0; i < length; i++) {
         state ^= state << 13;
         state ^= state >> 7;
         state ^= state << 17;
-        junk[i] = (uint8_t)(state >> 32);
+        bytes[i] = (uint8_t)(state >> 32);
     }
+}
+
+static void make_junk(void) {
+    fill_any(junk, sizeof junk, 0x9e3779b97f4a7c15u);
+    fill_any(canaries, sizeof canaries, 0xbf58476d1ce4e5b9u);
 }
 
 static void make_lent(Lent *lent, const char *name, size_t most) {
     size_t room = (most + CANARIES + PAGE - 1) / PAGE * PAGE;
     uint8_t *pages = mmap(NULL, room + 2 * PAGE, PROT_NONE, MAP_PRIVATE | MAP_ANONYMOUS | MAP_NORESERVE, -1, 0);
-    if (pages == MAP_FAILED || mprotect(pages + PAGE, room, PROT_READ | PROT_WRITE) != 0) {
+    uint8_t *was = malloc(room);
+    if (pages == MAP_FAILED || !was || mprotect(pages + PAGE, room, PROT_READ | PROT_WRITE) != 0) {
         fprintf(stderr, "no memory for %s\n", name);
         exit(2);
     }
-    *lent = (Lent){.name = name, .base = pages + PAGE, .room = room, .was = malloc(most + 1)};
+    *lent = (Lent){.name = name, .base = pages + PAGE, .room = room, .was = was};
 }
 
 // Lends so many bytes, junk in them.
@@ -67,7 +72,7 @@ static void lend(Lent *lent, size_t length, bool at_end, uint8_t seed) {
     lent->length = length;
     lent->at_end = at_end;
     lent->at = at_end ? lent->base + lent->room - length : lent->base;
-    memset(at_end ? lent->at - CANARIES : lent->at + length, CANARY, CANARIES);
+    memcpy(at_end ? lent->at - CANARIES : lent->at + length, canaries, CANARIES);
     size_t from = seed * 8u;
     for (size_t done = 0; done < length;) {
         size_t part = sizeof junk - from;
@@ -82,10 +87,11 @@ static void lend(Lent *lent, size_t length, bool at_end, uint8_t seed) {
 static void keep(Lent *lent) { memcpy(lent->was, lent->at, lent->length); }
 
 static void check_canaries(const Lent *lent) {
-    const uint8_t *canaries = lent->at_end ? lent->at - CANARIES : lent->at + lent->length;
-    for (size_t i = 0; i < CANARIES; i++)
-        if (canaries[i] != CANARY)
-            fail("byte %zu %s %s is written", lent->at_end ? CANARIES - i : i, lent->at_end ? "before" : "past", lent->name);
+    const uint8_t *stand = lent->at_end ? lent->at - CANARIES : lent->at + lent->length;
+    if (memcmp(stand, canaries, CANARIES) == 0) return;
+    size_t i = 0;
+    while (stand[i] == canaries[i]) i++;
+    fail("byte %zu %s %s is written", lent->at_end ? CANARIES - i : i, lent->at_end ? "before" : "past", lent->name);
 }
 
 static void check_bytes(const Lent *lent, const uint8_t *want, size_t from, size_t to, const char *why) {

@@ -20,6 +20,7 @@ uint64_t __wrap_mascon_inside(const uint8_t *triangles, size_t triangles_length,
     if (fault(2) && answer == 8 && floats_length) floats[0] = 1;
     if (fault(3) && answer == 1 && triangles_length > 72 * 12) answer = 0;
     if (fault(4) && answer <= 1) floats[floats_length] = 0; // past the end
+    if (fault(25) && answer <= 1) floats[-1] = 0;
     return answer;
 }
 
@@ -33,6 +34,10 @@ uint64_t __wrap_mascon_fill(uint32_t g, const uint8_t *triangles, size_t triangl
                                          target_mass, constant_density, floats, floats_length, out, out_length);
     if (fault(5) && answer == 18) out[out_length - 1] = 1; // not all zeroed
     if (fault(6) && answer > 64 && target_mass > 0) out[answer - 1] ^= 0x80;
+    if (fault(26) && answer == 20) out[out_length - 1] = 1;
+    if (fault(27) && answer == 19) memset(out, 0, out_length);
+    if (fault(28) && answer >= 64 && elliptic_kernels_length) ((uint8_t *)elliptic_kernels)[elliptic_kernels_length - 1] ^= 1;
+    if (fault(29) && answer == 19) answer = 18;
     return answer;
 }
 
@@ -40,6 +45,7 @@ uint64_t __real_mascon_open(const uint8_t *file, size_t file_length, uint32_t *s
 uint64_t __wrap_mascon_open(const uint8_t *file, size_t file_length, uint32_t *scratch, size_t scratch_length, uint8_t *out, size_t out_length, uint32_t *journal, size_t journal_length) {
     volatile uint8_t seen;
     if (fault(7)) seen = file[file_length]; // reads past the end
+    if (fault(30)) seen = file[-1];
     uint64_t answer = __real_mascon_open(file, file_length, scratch, scratch_length, out, out_length, journal, journal_length);
     if (fault(8) && answer >= 64 && answer < out_length) out[answer] ^= 1;
     if (fault(9) && answer >= 64 && answer == out_length) out[answer] ^= 1;
@@ -47,6 +53,7 @@ uint64_t __wrap_mascon_open(const uint8_t *file, size_t file_length, uint32_t *s
     if (fault(11) && answer > 64) answer++;
     if (fault(24) && answer >= 64 && word(file + 12) == 29 && word(file + 8) == 7) out[answer - 1] ^= 1; // one grid and count
     if (fault(12) && answer >= 64 && journal_length > 1) journal[1] = 0;
+    if (fault(31) && answer == 9 && journal_length == 0) answer = 13;
     (void)seen;
     return answer;
 }
@@ -56,6 +63,7 @@ uint64_t __wrap_mascon_put(uint8_t *file, size_t file_length, uint32_t *journal,
     uint64_t answer = __real_mascon_put(file, file_length, journal, journal_length, x, y, z, cauchy, elliptic);
     if (fault(13) && answer >= 64 && journal[3 * journal[0] - 2] >> 30 == 2) journal[3 * journal[0]] = 0; // the mass before is lost
     if (fault(14) && answer == 14) journal[0] = 0;
+    if (fault(32) && answer == 13 && file_length < 80 + 16ull * word(file + 12)) answer = 14;
     if (fault(23) && answer >= 64 && x == 5 && y == 1 && z == 4 && cauchy == 3.0f) file[24] ^= 1; // one cell and mass
     return answer;
 }
@@ -75,6 +83,7 @@ uint64_t __wrap_mascon_undo(uint8_t *file, size_t file_length, uint32_t *journal
         set_word(file + 12, word(file + 12) - 1);
         answer -= 16;
     }
+    if (fault(33) && answer == 16 && file_length < 80 + 16ull * word(file + 12)) answer = 14;
     if (fault(18) && answer >= 64 && journal[0] >= 3) file[answer - 1] ^= 1; // only with three entries left
     return answer;
 }
@@ -88,7 +97,8 @@ MasconBuilt __wrap_mascon_build(const uint8_t *file, size_t file_length, uint32_
         set_word(out + built.answer - 4, before);
         set_word(out + built.answer - 8, last);
     }
-    if (fault(21) && built.answer == 9) out[0] ^= 1;
+    if (fault(21) && built.answer == 9 && out_length) out[0] ^= 1;
+    if (fault(34) && built.answer == 9) built.nodes = built.order = 1;
     if (fault(22) && built.answer >= 64 && file_length > 64) ((uint8_t *)file)[28] ^= 1; // what is only read
     return built;
 }

@@ -6,15 +6,16 @@ pub(crate) mod plain;
 
 use crate::ffi::{self, Built};
 use crate::lent::Buffers;
-use crate::open::cases::{Case, Kind};
+use crate::open::cases::Case;
 use crate::open::{lay, scratch_word};
 use crate::original;
 use crate::points::{point_file, record, Header, Record};
 use crate::report::Report;
 use crate::rng::Rng;
 use crate::rule;
-use crate::search::{first, shared, Search};
+use crate::search::{self, first, Fixed};
 use cases::{exact, KINDS};
+use std::fmt::{self, Display};
 
 /// An implementation of build.
 pub(crate) type Build = fn(&[u8], &mut [u32], &mut [u8]) -> Built;
@@ -22,35 +23,37 @@ pub(crate) type Build = fn(&[u8], &mut [u32], &mut [u8]) -> Built;
 /// The seed of the first kind; the others follow.
 const SEED: u64 = 101;
 
-/// One call's buffers, and what the output shall hold afterwards.
+/// One call's buffers, the answer that it shall give, and what the output shall hold afterwards.
 struct Desk {
     lent: Buffers,
+    want: Built,
     want_out: Vec<u8>,
 }
 
-impl Desk {
+impl search::Desk for Desk {
+    type Case = Case;
+    type Call = Build;
+    type Answer = Built;
+
     fn new() -> Self {
         Self {
             lent: Buffers::new(),
+            want: Built::refused(0),
             want_out: Vec::new(),
         }
     }
 
-    /// Makes the call and says what differs from the rule, or in the rule from the original, if anything does.
     fn differs(&mut self, build: Build, case: &Case) -> Option<String> {
         lay(case, &mut self.lent, &mut self.want_out);
         let want = rule::tree::build(&case.file, case.scratch as u64, &mut self.want_out);
+        self.want = want;
         let got = build(
             self.lent.file.slice(),
             self.lent.scratch.slice_mut(),
             self.lent.out.slice_mut(),
         );
         if got != want {
-            return Some(format!(
-                "library answers {}, rule {}",
-                in_words(got),
-                in_words(want)
-            ));
+            return Some(format!("library answers {got}, rule {want}"));
         }
         let before = |at| scratch_word(case.junk, at);
         first("output byte", self.lent.out.slice(), &self.want_out)
@@ -58,18 +61,34 @@ impl Desk {
             .or_else(|| self.lent.broken())
             .or_else(|| self.lent.scratched(want.answer, before))
             .or_else(|| unlike_the_original(&case.file, want, &self.want_out))
-            .map(|what| format!("answer {}, {what}", in_words(want)))
+            .map(|what| format!("answer {want}, {what}"))
+    }
+
+    fn want(&self) -> Built {
+        self.want
+    }
+
+    fn size(case: &Case) -> usize {
+        case.size()
+    }
+
+    fn described(case: &Case) -> String {
+        case.described()
     }
 }
 
-/// An answer and its counts.
-pub(crate) fn in_words(built: Built) -> String {
-    match built.answer {
-        0..64 if (built.nodes, built.order) == (0, 0) => built.answer.to_string(),
-        _ => format!(
-            "{} ({} nodes, order {})",
-            built.answer, built.nodes, built.order
-        ),
+/// An answer, and its counts where it has any.
+impl Display for Built {
+    fn fmt(&self, to: &mut fmt::Formatter) -> fmt::Result {
+        let Self {
+            answer,
+            nodes,
+            order,
+        } = self;
+        match (answer, nodes, order) {
+            (0..64, 0, 0) => write!(to, "{answer}"),
+            _ => write!(to, "{answer} ({nodes} nodes, order {order})"),
+        }
     }
 }
 
@@ -85,36 +104,9 @@ pub(crate) fn unlike_the_original(file: &[u8], built: Built, out: &[u8]) -> Opti
         return fits.then(|| format!("the original's tree has {} bytes", tree.len()));
     }
     if counts != built {
-        return Some(format!("the original's is {}", in_words(counts)));
+        return Some(format!("the original's is {counts}"));
     }
     first("byte beside the original", out, &tree)
-}
-
-/// Makes the call of a case and notes what it finds.
-fn visit(search: &mut Search, desk: &mut Desk, build: Build, name: &str, number: u64, case: &Case) {
-    let size = case.file.len() + 4 * case.scratch + case.out;
-    let wrong = desk.differs(build, case);
-    let told = wrong.map(|what| format!("{name}, case {number}: {}: {what}", described(case)));
-    search.note(size, number, told);
-}
-
-fn described(case: &Case) -> String {
-    format!(
-        "g {}, {} records, file {}, scratch {}, output {}",
-        case.grid,
-        case.records,
-        case.file.len(),
-        case.scratch,
-        case.out
-    )
-}
-
-/// Compares the cases of a kind, the work shared out by their numbers.
-fn compare(build: Build, seed: u64, kind: &Kind, cases: u64) -> Search {
-    shared(cases, Desk::new, |search, desk, number| {
-        let case = kind.case(seed, number);
-        visit(search, desk, build, kind.name, number, &case);
-    })
 }
 
 /// The file over a cube of `g` metres with a record for each of the cell numbers, in their order.
@@ -153,8 +145,7 @@ fn answer(answer: u64, nodes: u64, order: u64) -> Option<Built> {
     })
 }
 
-/// Cases by name, with their answers where 01 or arithmetic gives them.
-fn fixed() -> Vec<(&'static str, Case, Option<Built>)> {
+fn fixed() -> Vec<Fixed<Desk>> {
     let outside = point_file(Header::cube(192, 1.0), &[record([192, 5, 0], 1)]);
     let grid_257 = point_file(Header::cube(257, 1.0), &[]);
     let of_none = |g: u32| just(of_cells(g, 0..0));
@@ -190,53 +181,30 @@ fn fixed() -> Vec<(&'static str, Case, Option<Built>)> {
     ]
 }
 
-/// The fixed cases on one desk; an answer that is known is asked of the rule too.
-fn compare_fixed(build: Build) -> Search {
-    let (mut desk, mut search) = (Desk::new(), Search::default());
-    for (number, (name, case, answer)) in (0..).zip(fixed()) {
-        visit(&mut search, &mut desk, build, name, number, &case);
-        let mut out = vec![0; case.out];
-        let by_rule = rule::tree::build(&case.file, case.scratch as u64, &mut out);
-        if answer.is_some_and(|answer| answer != by_rule) {
-            let by_rule = in_words(by_rule);
-            search.note_first(number, format!("{name}: rule answers {by_rule}"));
-        }
-    }
-    search
-}
-
 pub(crate) fn check(report: &mut Report) {
-    for (seed, kind) in (SEED..).zip(&KINDS) {
-        report.run(&format!("build: {}", kind.name), || {
-            compare(ffi::build, seed, kind, kind.cases).found()
-        });
-    }
-    report.run("build: fixed cases", || compare_fixed(ffi::build).found());
+    search::check::<Desk, _>(report, "build", ffi::build, (SEED, &KINDS), fixed);
 }
 
 #[cfg(test)]
 mod tests {
     use super::plain::{plain_build, Fault, FAULTS};
     use super::*;
-    use crate::open::cases::DAMAGE_ANSWERS;
+    use crate::open::cases::{Kind, DAMAGE_ANSWERS};
+    use crate::search::{compare, compare_fixed, named, tally};
     use std::collections::{BTreeMap, BTreeSet};
 
     /// Cases of each kind that a test looks at.
     const FEW: u64 = 1000;
 
-    /// A kind by its name, with its seed.
     fn kind(name: &str) -> (u64, &'static Kind) {
-        let mut kinds = (SEED..).zip(&KINDS);
-        kinds
-            .find(|(_, kind)| kind.name == name)
-            .expect("a kind of this name")
+        named(name, SEED, &KINDS)
     }
 
     /// The kinds in which an implementation is found to be wrong.
     fn found(build: Build) -> Vec<&'static str> {
         let wrong = |(seed, kind): &(u64, &'static Kind)| {
             let cases = if kind.cases < FEW { 2 } else { 100 };
-            compare(build, *seed, kind, cases).mismatches > 0
+            compare::<Desk>(build, *seed, kind, cases).mismatches > 0
         };
         let wrong = (SEED..).zip(&KINDS).filter(wrong);
         wrong.map(|(_, kind)| kind.name).collect()
@@ -245,13 +213,12 @@ mod tests {
     /// The rule's answers on the first cases of a kind.
     fn answers(name: &str) -> BTreeMap<u64, u64> {
         let (seed, kind) = kind(name);
-        let mut seen = BTreeMap::new();
-        for case in (0..FEW).map(|number| kind.case(seed, number)) {
+        tally((0..FEW).map(|number| {
+            let case = kind.case(seed, number);
             let mut out = vec![0; case.out];
             let built = rule::tree::build(&case.file, case.scratch as u64, &mut out);
-            *seen.entry(built.answer.min(64)).or_default() += 1;
-        }
-        seen
+            built.answer.min(64)
+        }))
     }
 
     /// Each kind reaches the answers that it is for, and no good file is refused.
@@ -328,7 +295,8 @@ mod tests {
     fn plain_build_agrees() {
         let plain: Build = |file, scratch, out| plain_build(Fault::None, file, scratch, out);
         assert_eq!(found(plain), [""; 0]);
-        assert_eq!(compare_fixed(plain).mismatches, 0);
+        let found = compare_fixed::<Desk>(plain, fixed());
+        assert_eq!(found.mismatches, 0);
     }
 
     /// Made-up faults of the tree are found, and where they should be.
@@ -340,9 +308,11 @@ mod tests {
         }
         let header: Build = |f, s, o| plain_build(Fault::HeaderHasOrderCount, f, s, o);
         let (seed, repeated) = kind("repeated cells");
-        assert_eq!(compare(header, seed, repeated, 100).mismatches, 100);
+        let found = compare::<Desk>(header, seed, repeated, 100);
+        assert_eq!(found.mismatches, 100);
         let (seed, every) = kind("every grid size");
-        assert_eq!(compare(header, seed, every, 100).mismatches, 0);
+        let found = compare::<Desk>(header, seed, every, 100);
+        assert_eq!(found.mismatches, 0);
     }
 
     /// Made-up faults of a call are found, and where they should be.
@@ -396,7 +366,7 @@ mod tests {
     fn the_smallest_is_told() {
         let wrong: Build = |_, _, _| Built::refused(5);
         let (seed, kind) = kind("junk not read");
-        let what = compare(wrong, seed, kind, 300).found();
+        let what = compare::<Desk>(wrong, seed, kind, 300).found();
         assert_eq!((what.cases, what.mismatches), (300, 300));
         let what = what.smallest.expect("a mismatch");
         assert!(

@@ -4,7 +4,7 @@ pub(crate) mod cases;
 #[cfg(test)]
 pub(crate) mod plain;
 
-use crate::build::{in_words, of_cells, Build};
+use crate::build::{of_cells, Build};
 use crate::ffi;
 use crate::lent::Lent;
 use crate::open::Open;
@@ -184,7 +184,6 @@ impl Desk {
         let scratch = &mut self.scratch[..grid.pow(3)];
         let got = build(self.file.slice(), scratch, &mut self.tree);
         if got != want {
-            let (got, want) = (in_words(got), in_words(want));
             return Some(format!(
                 "build answers {got}, the register's tree is {want}"
             ));

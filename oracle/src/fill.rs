@@ -7,12 +7,11 @@ pub(crate) mod plain;
 
 use crate::ffi;
 use crate::lent::{Floats, Lent};
-use crate::open::cases::Kind;
 use crate::original;
 use crate::report::Report;
 use crate::rule;
 use crate::rule::fill::Body;
-use crate::search::{first, shared, Search};
+use crate::search::{self, first};
 use cases::{Case, KINDS};
 
 /// An implementation of fill.
@@ -33,16 +32,6 @@ struct Desk {
 const LISTS: [&str; 3] = ["mesh", "Cauchy kernels", "elliptic kernels"];
 
 impl Desk {
-    fn new() -> Self {
-        Self {
-            lists: [Lent::new(), Lent::new(), Lent::new()],
-            floats: Lent::new(),
-            out: Lent::new(),
-            want: 0,
-            want_out: Vec::new(),
-        }
-    }
-
     /// Lays out what a case gives and lends, with these bytes as the output.
     fn lay(&mut self, case: &Case, out: impl ExactSizeIterator<Item = u8>) {
         let shift = case.junk as usize % 16;
@@ -78,15 +67,6 @@ impl Desk {
             .or_else(|| self.floats.scratched(answer, case.junk))
     }
 
-    /// Makes the call and says what differs from the rule, or in the rule from the original, if anything does.
-    fn differs(&mut self, fill: Fill, case: &Case) -> Option<String> {
-        self.unlike_the_rule(fill, case).or_else(|| {
-            let want = self.want;
-            unlike_the_original(&case.body(), want, &self.want_out)
-                .map(|what| format!("answer {want}, {what}"))
-        })
-    }
-
     fn unlike_the_rule(&mut self, fill: Fill, case: &Case) -> Option<String> {
         self.lay(case, case.out_before());
         self.want_out.clear();
@@ -103,9 +83,62 @@ impl Desk {
     }
 }
 
+impl search::Desk for Desk {
+    type Case = Case;
+    type Call = Fill;
+    type Answer = u64;
+
+    fn new() -> Self {
+        Self {
+            lists: [Lent::new(), Lent::new(), Lent::new()],
+            floats: Lent::new(),
+            out: Lent::new(),
+            want: 0,
+            want_out: Vec::new(),
+        }
+    }
+
+    fn differs(&mut self, fill: Fill, case: &Case) -> Option<String> {
+        self.unlike_the_rule(fill, case).or_else(|| {
+            let want = self.want;
+            unlike_the_original(&case.body(), want, &self.want_out)
+                .map(|what| format!("answer {want}, {what}"))
+        })
+    }
+
+    fn want(&self) -> u64 {
+        self.want
+    }
+
+    fn size(case: &Case) -> usize {
+        let lists = case.triangles.len() + case.cauchy.len() + case.elliptic.len();
+        lists + 8 * case.floats + case.out
+    }
+
+    fn described(case: &Case) -> String {
+        let Case {
+            grid,
+            triangles,
+            cauchy,
+            elliptic,
+            ..
+        } = case;
+        format!(
+            "g {grid}, mesh {}, kernels {} and {}, target {:e}, density {:e}, scratch {}, output {}",
+            triangles.len(),
+            cauchy.len(),
+            elliptic.len(),
+            case.target,
+            case.density,
+            case.floats,
+            case.out
+        )
+    }
+}
+
 /// Makes a call in lent buffers, with these bytes as the output: its answer, the output afterwards, what it did besides.
 pub(crate) fn called(fill: Fill, case: &Case, out: &[u8]) -> (u64, Vec<u8>, Option<String>) {
-    let mut desk = Desk::new();
+    let mut desk: Desk = search::Desk::new();
     desk.lay(case, out.iter().copied());
     let answer = desk.call(fill, case);
     let besides = desk.besides(case, answer);
@@ -136,63 +169,8 @@ pub(crate) fn unlike_the_original(body: &Body, answer: u64, out: &[u8]) -> Optio
     Some(format!("the original {told}"))
 }
 
-fn described(case: &Case) -> String {
-    let Case {
-        grid,
-        triangles,
-        cauchy,
-        elliptic,
-        ..
-    } = case;
-    format!(
-        "g {grid}, mesh {}, kernels {} and {}, target {:e}, density {:e}, scratch {}, output {}",
-        triangles.len(),
-        cauchy.len(),
-        elliptic.len(),
-        case.target,
-        case.density,
-        case.floats,
-        case.out
-    )
-}
-
-/// Makes the call of a case and notes what it finds.
-fn visit(search: &mut Search, desk: &mut Desk, fill: Fill, name: &str, number: u64, case: &Case) {
-    let lists = case.triangles.len() + case.cauchy.len() + case.elliptic.len();
-    let size = lists + 8 * case.floats + case.out;
-    let wrong = desk.differs(fill, case);
-    let told = wrong.map(|what| format!("{name}, case {number}: {}: {what}", described(case)));
-    search.note(size, number, told);
-}
-
-/// Compares the cases of a kind, the work shared out by their numbers.
-fn compare(fill: Fill, seed: u64, kind: &Kind<Case>, cases: u64) -> Search {
-    shared(cases, Desk::new, |search, desk, number| {
-        let case = kind.case(seed, number);
-        visit(search, desk, fill, kind.name, number, &case);
-    })
-}
-
-/// The fixed cases on one desk; an answer that is known is asked of the rule too.
-fn compare_fixed(fill: Fill) -> Search {
-    let (mut desk, mut search) = (Desk::new(), Search::default());
-    for (number, (name, case, answer)) in (0..).zip(fixed::all()) {
-        visit(&mut search, &mut desk, fill, name, number, &case);
-        let by_rule = desk.want;
-        if answer.is_some_and(|answer| answer != by_rule) {
-            search.note_first(number, format!("{name}: rule answers {by_rule}"));
-        }
-    }
-    search
-}
-
 pub(crate) fn check(report: &mut Report) {
-    for (seed, kind) in (SEED..).zip(&KINDS) {
-        report.run(&format!("fill: {}", kind.name), || {
-            compare(ffi::fill, seed, kind, kind.cases).found()
-        });
-    }
-    report.run("fill: fixed cases", || compare_fixed(ffi::fill).found());
+    search::check::<Desk, _>(report, "fill", ffi::fill, (SEED, &KINDS), fixed::all);
 }
 
 #[cfg(test)]
@@ -202,26 +180,25 @@ mod tests {
     use super::*;
     #[cfg(original)]
     use crate::meshes::cuboid;
+    use crate::open::cases::Kind;
+    use crate::search::{compare, named, tally, Desk as _};
     use std::collections::{BTreeMap, BTreeSet};
 
-    /// A kind by its name, with its seed.
     fn kind(name: &str) -> (u64, &'static Kind<Case>) {
-        let mut kinds = (SEED..).zip(&KINDS);
-        kinds
-            .find(|(_, kind)| kind.name == name)
-            .expect("a kind of this name")
+        named(name, SEED, &KINDS)
+    }
+
+    fn by_rule(case: &Case) -> (u64, Vec<u8>) {
+        let mut out = vec![0; case.out];
+        let answer = rule::fill::fill(&case.body(), case.floats as u64, &mut out);
+        (answer, out)
     }
 
     /// The rule's answers on the first cases of a kind.
     fn answers(name: &str) -> BTreeMap<u64, u64> {
         let (seed, kind) = kind(name);
-        let mut seen = BTreeMap::new();
-        for case in (0..kind.cases.min(300)).map(|number| kind.case(seed, number)) {
-            let mut out = vec![0; case.out];
-            let answer = rule::fill::fill(&case.body(), case.floats as u64, &mut out);
-            *seen.entry(answer.min(64)).or_default() += 1;
-        }
-        seen
+        let cases = (0..kind.cases.min(300)).map(|number| kind.case(seed, number));
+        tally(cases.map(|case| by_rule(&case).0.min(64)))
     }
 
     /// Each kind reaches the answers that it is for.
@@ -293,9 +270,7 @@ mod tests {
         let (seed, kind) = kind("pairs of causes");
         let mut seen = BTreeSet::new();
         for number in 0..210 {
-            let case = kind.case(seed, number);
-            let mut out = vec![0; case.out];
-            let answer = rule::fill::fill(&case.body(), case.floats as u64, &mut out);
+            let (answer, _) = by_rule(&kind.case(seed, number));
             let pair = pair_of(number as usize);
             assert_eq!(answer, pair[0], "case {number}");
             seen.insert(pair);
@@ -310,8 +285,7 @@ mod tests {
             let (seed, kind) = kind(name);
             let cases = (0..300).map(|number| kind.case(seed, number));
             let wanted = |case: &Case| {
-                let mut out = vec![0; case.out];
-                let answer = rule::fill::fill(&case.body(), case.floats as u64, &mut out);
+                let (answer, out) = by_rule(case);
                 answer >= 64 && wanted(&out[..answer as usize])
             };
             cases.filter(wanted).count()
@@ -367,7 +341,7 @@ mod tests {
     fn plain_fill_agrees() {
         let plain: Fill = |body, floats, out| plain_fill(Fault::None, body, floats, out);
         for (seed, kind) in (SEED..).zip(&KINDS) {
-            let found = compare(plain, seed, kind, kind.cases.min(100)).found();
+            let found = compare::<Desk>(plain, seed, kind, kind.cases.min(100)).found();
             assert_eq!(found.smallest, None);
         }
     }
@@ -420,7 +394,7 @@ mod tests {
     fn the_smallest_is_told() {
         let wrong: Fill = |_, _, _| 5;
         let (seed, kind) = kind("no inside point");
-        let what = compare(wrong, seed, kind, 100).found();
+        let what = compare::<Desk>(wrong, seed, kind, 100).found();
         assert_eq!((what.cases, what.mismatches), (100, 100));
         let what = what.smallest.expect("a mismatch");
         assert!(what.contains("g 1, mesh 72, kernels "), "{what}");

@@ -12,7 +12,7 @@ use crate::report::Report;
 use crate::rng::Rng;
 use crate::rule;
 use crate::rule::fill::{Point, MOST_TRIANGLES, TRIANGLE};
-use crate::search::{first, shared, Search};
+use crate::search::{self, first, shared, Desk as _, Fixed, Search};
 use cases::{Case, Cloud, CLOUDS, KINDS, POINTS};
 
 /// An implementation of the inside test.
@@ -25,20 +25,14 @@ const REFUSED_SEED: u64 = 601;
 /// The rule is asked about one point in so many.
 const SHARE: usize = 4;
 
-/// A mesh and scratch.
+/// A mesh and scratch, and the answer that a call shall give.
 struct Desk {
     mesh: Lent<u8>,
     floats: Floats,
+    want: u64,
 }
 
 impl Desk {
-    fn new() -> Self {
-        Self {
-            mesh: Lent::new(),
-            floats: Lent::new(),
-        }
-    }
-
     fn lay(&mut self, triangles: &[u8], junk: u32) {
         let shift = junk as usize % 16;
         self.mesh.fill(shift, triangles.iter().copied());
@@ -62,19 +56,6 @@ impl Desk {
     fn changed(&self, triangles: &[u8]) -> Option<String> {
         let what = first("byte of the mesh", self.mesh.slice(), triangles);
         what.or_else(|| self.mesh.broken("mesh"))
-    }
-
-    /// Makes the call of a case and says what differs from the rule, or in the rule from the original, if anything does.
-    fn differs(&mut self, inside: Inside, case: &Case) -> Option<String> {
-        self.lay(&case.triangles, case.junk);
-        let want = rule::fill::inside(&case.triangles, case.point, case.floats as u64);
-        let (got, what) = self.call(inside, case.point, case.floats, case.junk);
-        if got != want {
-            return Some(format!("library answers {got}, rule {want}"));
-        }
-        what.or_else(|| self.changed(&case.triangles))
-            .or_else(|| unlike_the_original(case, want))
-            .map(|what| format!("answer {want}, {what}"))
     }
 
     /// Makes a call for each point of a cloud; says what differs from the original, or from the rule on a share of them.
@@ -102,12 +83,52 @@ impl Desk {
                 (got != want).then(|| format!("library answers {got}, {by} {want}"))
             };
             let wrong = told.into_iter().flatten().find_map(differs);
-            let wrong = wrong.or(what).or_else(|| match number {
-                0 => self.changed(&cloud.triangles),
-                _ => self.mesh.broken("mesh"),
+            let whole = number == 0 || number == cloud.points.len() - 1;
+            let wrong = wrong.or(what).or_else(|| match whole {
+                true => self.changed(&cloud.triangles),
+                false => self.mesh.broken("mesh"),
             });
             note(number, wrong);
         }
+    }
+}
+
+impl search::Desk for Desk {
+    type Case = Case;
+    type Call = Inside;
+    type Answer = u64;
+
+    fn new() -> Self {
+        Self {
+            mesh: Lent::new(),
+            floats: Lent::new(),
+            want: 0,
+        }
+    }
+
+    fn differs(&mut self, inside: Inside, case: &Case) -> Option<String> {
+        self.lay(&case.triangles, case.junk);
+        let want = rule::fill::inside(&case.triangles, case.point, case.floats as u64);
+        self.want = want;
+        let (got, what) = self.call(inside, case.point, case.floats, case.junk);
+        if got != want {
+            return Some(format!("library answers {got}, rule {want}"));
+        }
+        what.or_else(|| self.changed(&case.triangles))
+            .or_else(|| unlike_the_original(case, want))
+            .map(|what| format!("answer {want}, {what}"))
+    }
+
+    fn want(&self) -> u64 {
+        self.want
+    }
+
+    fn size(case: &Case) -> usize {
+        case.triangles.len() + 8 * case.floats
+    }
+
+    fn described(case: &Case) -> String {
+        described(&case.triangles, case.point, case.floats)
     }
 }
 
@@ -136,31 +157,7 @@ fn described(triangles: &[u8], point: Point, floats: usize) -> String {
     )
 }
 
-/// Makes the call of a case and notes what it finds.
-fn visit(
-    search: &mut Search,
-    desk: &mut Desk,
-    inside: Inside,
-    name: &str,
-    number: u64,
-    case: &Case,
-) {
-    let size = case.triangles.len() + 8 * case.floats;
-    let wrong = desk.differs(inside, case);
-    let what = described(&case.triangles, case.point, case.floats);
-    let told = wrong.map(|wrong| format!("{name}, case {number}: {what}: {wrong}"));
-    search.note(size, number, told);
-}
-
-/// Compares the cases of a kind, the work shared out by their numbers.
-fn compare(inside: Inside, seed: u64, kind: &Kind<Case>, cases: u64) -> Search {
-    shared(cases, Desk::new, |search, desk, number| {
-        let case = kind.case(seed, number);
-        visit(search, desk, inside, kind.name, number, &case);
-    })
-}
-
-/// The same for meshes with many points; a case is a point.
+/// Compares meshes with many points, the work shared out by their numbers; a case is a point.
 fn compare_clouds(inside: Inside, seed: u64, kind: &Kind<Cloud>, meshes: u64) -> Search {
     shared(meshes, Desk::new, |search, desk, number| {
         let cloud = kind.case(seed, number);
@@ -168,8 +165,10 @@ fn compare_clouds(inside: Inside, seed: u64, kind: &Kind<Cloud>, meshes: u64) ->
         let size = cloud.triangles.len() + 8 * floats;
         desk.cloud(inside, &cloud, |point, wrong| {
             let number = number * POINTS as u64 + point as u64;
-            let what = described(&cloud.triangles, cloud.points[point], floats);
-            let told = wrong.map(|wrong| format!("{}, case {number}: {what}: {wrong}", kind.name));
+            let told = wrong.map(|wrong| {
+                let what = described(&cloud.triangles, cloud.points[point], floats);
+                format!("{}, case {number}: {what}: {wrong}", kind.name)
+            });
             search.note(size, number, told);
         });
     })
@@ -250,8 +249,7 @@ pub(crate) fn small_fixed() -> Vec<(&'static str, Case, u64)> {
     ]
 }
 
-/// Cases by name, with their answers where 01 or arithmetic gives them.
-fn fixed() -> Vec<(&'static str, Case, u64)> {
+fn fixed() -> impl Iterator<Item = Fixed<Desk>> {
     let mut many: Mesh = vec![dot([0.25; 3]); MOST_TRIANGLES - 12];
     many.extend(cuboid([0.0; 3], [1.0; 3]));
     let most = Case::of(&many, [0.5; 3]);
@@ -265,19 +263,8 @@ fn fixed() -> Vec<(&'static str, Case, u64)> {
         ("2^20 + 1 triangles", Case::of(&many, [0.5; 3]), 17),
     ]);
     fixed
-}
-
-/// The fixed cases on one desk; the answer is asked of the rule too.
-fn compare_fixed(inside: Inside) -> Search {
-    let (mut desk, mut search) = (Desk::new(), Search::default());
-    for (number, (name, case, answer)) in (0..).zip(fixed()) {
-        visit(&mut search, &mut desk, inside, name, number, &case);
-        let by_rule = rule::fill::inside(&case.triangles, case.point, case.floats as u64);
-        if answer != by_rule {
-            search.note_first(number, format!("{name}: rule answers {by_rule}"));
-        }
-    }
-    search
+        .into_iter()
+        .map(|(name, case, answer)| (name, case, Some(answer)))
 }
 
 pub(crate) fn check(report: &mut Report) {
@@ -286,18 +273,15 @@ pub(crate) fn check(report: &mut Report) {
             compare_clouds(ffi::inside, seed, kind, kind.cases).found()
         });
     }
-    for (seed, kind) in (REFUSED_SEED..).zip(&KINDS) {
-        report.run(&format!("inside: {}", kind.name), || {
-            compare(ffi::inside, seed, kind, kind.cases).found()
-        });
-    }
-    report.run("inside: fixed cases", || compare_fixed(ffi::inside).found());
+    let kinds = (REFUSED_SEED, &KINDS[..]);
+    search::check::<Desk, _>(report, "inside", ffi::inside, kinds, fixed);
 }
 
 #[cfg(test)]
 mod tests {
     use super::*;
     use crate::fill::plain::{plain_inside, Fault, INSIDE_FAULTS};
+    use crate::search::{compare, named, tally};
     use std::collections::BTreeMap;
 
     /// Whether the kinds of a name show that an implementation is wrong.
@@ -323,14 +307,11 @@ mod tests {
 
     /// The rule's answers on the first cases of a kind.
     fn answers(name: &str) -> BTreeMap<u64, u64> {
-        let mut kinds = (REFUSED_SEED..).zip(&KINDS);
-        let (seed, kind) = kinds.find(|(_, kind)| kind.name == name).expect("a kind");
-        let mut seen = BTreeMap::new();
-        for case in (0..600).map(|number| kind.case(seed, number)) {
-            let answer = rule::fill::inside(&case.triangles, case.point, case.floats as u64);
-            *seen.entry(answer).or_default() += 1;
-        }
-        seen
+        let (seed, kind) = named(name, REFUSED_SEED, &KINDS);
+        tally((0..600).map(|number| {
+            let case = kind.case(seed, number);
+            rule::fill::inside(&case.triangles, case.point, case.floats as u64)
+        }))
     }
 
     /// Each kind reaches the answers that it is for.
@@ -366,7 +347,8 @@ mod tests {
             assert_eq!(compare_clouds(plain, seed, kind, 20).found().smallest, None);
         }
         for (seed, kind) in (REFUSED_SEED..).zip(&KINDS) {
-            assert_eq!(compare(plain, seed, kind, 300).found().smallest, None);
+            let found = compare::<Desk>(plain, seed, kind, 300).found();
+            assert_eq!(found.smallest, None);
         }
     }
 

@@ -8,16 +8,20 @@ use crate::points::{point_file, record, Header, Record};
 use crate::report::Report;
 use crate::rng::Rng;
 use crate::rule;
-use crate::search::{first, shared, Search};
-use cases::{Case, Kind, KINDS};
+use crate::search::{self, first, Fixed};
+use cases::{Case, KINDS};
 
 /// An implementation of open.
 pub(crate) type Open = fn(&[u8], &mut [u32], &mut [u8], &mut [u32]) -> u64;
 
-/// One call's buffers, and what they shall hold afterwards.
+/// The seed of the first kind; the others follow.
+const SEED: u64 = 1;
+
+/// One call's buffers, the answer that it shall give, and what they shall hold afterwards.
 struct Desk {
     lent: Buffers,
     journal: Lent<u32>,
+    want: u64,
     want_out: Vec<u8>,
     want_journal: Vec<u32>,
 }
@@ -53,15 +57,6 @@ pub(crate) fn lay(case: &Case, lent: &mut Buffers, want_out: &mut Vec<u8>) {
 }
 
 impl Desk {
-    fn new() -> Self {
-        Self {
-            lent: Buffers::new(),
-            journal: Lent::new(),
-            want_out: Vec::new(),
-            want_journal: Vec::new(),
-        }
-    }
-
     fn lay(&mut self, case: &Case) {
         lay(case, &mut self.lent, &mut self.want_out);
         self.journal
@@ -70,15 +65,34 @@ impl Desk {
         self.want_journal.extend_from_slice(self.journal.slice());
     }
 
-    /// Makes the call and says what differs from the rule, if anything does.
+    /// An opened file that is not good, or not in working form.
+    fn unfit(&self, answer: u64) -> Option<String> {
+        let opened = self.lent.out.slice().get(..answer as usize)?;
+        let fit = answer < 64 || rule::judge(opened).is_none() && rule::working(opened);
+        (!fit).then(|| "the opened file is not in working form".into())
+    }
+}
+
+impl search::Desk for Desk {
+    type Case = Case;
+    type Call = Open;
+    type Answer = u64;
+
+    fn new() -> Self {
+        Self {
+            lent: Buffers::new(),
+            journal: Lent::new(),
+            want: 0,
+            want_out: Vec::new(),
+            want_journal: Vec::new(),
+        }
+    }
+
     fn differs(&mut self, open: Open, case: &Case) -> Option<String> {
         self.lay(case);
-        let want = rule::open(
-            &case.file,
-            case.scratch as u64,
-            &mut self.want_out,
-            &mut self.want_journal,
-        );
+        let (out, journal) = (&mut self.want_out, &mut self.want_journal);
+        let want = rule::open(&case.file, case.scratch as u64, out, journal);
+        self.want = want;
         let got = open(
             self.lent.file.slice(),
             self.lent.scratch.slice_mut(),
@@ -99,40 +113,17 @@ impl Desk {
             .map(|what| format!("answer {want}, {what}"))
     }
 
-    /// An opened file that is not good, or not in working form.
-    fn unfit(&self, answer: u64) -> Option<String> {
-        let opened = self.lent.out.slice().get(..answer as usize)?;
-        let fit = answer < 64 || rule::judge(opened).is_none() && rule::working(opened);
-        (!fit).then(|| "the opened file is not in working form".into())
+    fn want(&self) -> u64 {
+        self.want
     }
-}
 
-fn described(case: &Case) -> String {
-    format!(
-        "g {}, {} records, file {}, scratch {}, output {}, journal {}",
-        case.grid,
-        case.records,
-        case.file.len(),
-        case.scratch,
-        case.out,
-        case.journal
-    )
-}
+    fn size(case: &Case) -> usize {
+        case.size() + 4 * case.journal
+    }
 
-/// Makes the call of a case and notes what it finds.
-fn visit(search: &mut Search, desk: &mut Desk, open: Open, name: &str, number: u64, case: &Case) {
-    let size = case.file.len() + 4 * case.scratch + case.out + 4 * case.journal;
-    let wrong = desk.differs(open, case);
-    let told = wrong.map(|what| format!("{name}, case {number}: {}: {what}", described(case)));
-    search.note(size, number, told);
-}
-
-/// Compares the cases of a kind, the work shared out by their numbers.
-fn compare(open: Open, seed: u64, kind: &Kind, cases: u64) -> Search {
-    shared(cases, Desk::new, |search, desk, number| {
-        let case = kind.case(seed, number);
-        visit(search, desk, open, kind.name, number, &case);
-    })
+    fn described(case: &Case) -> String {
+        format!("{}, journal {}", case.described(), case.journal)
+    }
 }
 
 /// About 100,000 records at g 192 in no order, some cells more than once.
@@ -148,8 +139,7 @@ fn many_records() -> Case {
     )
 }
 
-/// Cases by name, with their answers where 01 or arithmetic gives them.
-fn fixed() -> [(&'static str, Case, Option<u64>); 5] {
+fn fixed() -> [Fixed<Desk>; 5] {
     let grid_of = |g: u32| point_file(Header::cube(g, 1.0), &[]);
     let outside = point_file(Header::cube(192, 1.0), &[record([192, 5, 0], 1)]);
     let mut short = Case::of(grid_of(256), 256, 0);
@@ -163,34 +153,16 @@ fn fixed() -> [(&'static str, Case, Option<u64>); 5] {
     ]
 }
 
-/// The fixed cases on one desk; an answer that is known is asked of the rule too.
-fn compare_fixed(open: Open) -> Search {
-    let (mut desk, mut search) = (Desk::new(), Search::default());
-    for (number, (name, case, answer)) in (0..).zip(fixed()) {
-        visit(&mut search, &mut desk, open, name, number, &case);
-        let (mut out, mut journal) = (vec![0; case.out], vec![0; case.journal]);
-        let told = rule::open(&case.file, case.scratch as u64, &mut out, &mut journal);
-        if answer.is_some_and(|answer| answer != told) {
-            search.note_first(number, format!("{name}: rule answers {told}"));
-        }
-    }
-    search
-}
-
 pub(crate) fn check(report: &mut Report) {
-    for (seed, kind) in (1..).zip(&KINDS) {
-        report.run(&format!("open: {}", kind.name), || {
-            compare(ffi::open, seed, kind, kind.cases).found()
-        });
-    }
-    report.run("open: fixed cases", || compare_fixed(ffi::open).found());
+    search::check::<Desk, _>(report, "open", ffi::open, (SEED, &KINDS), fixed);
 }
 
 #[cfg(test)]
 mod tests {
     use super::*;
     use crate::bench::plain_open;
-    use cases::DAMAGE_ANSWERS;
+    use crate::search::{compare, compare_fixed, named, tally};
+    use cases::{Kind, DAMAGE_ANSWERS};
     use std::collections::BTreeMap;
 
     /// Cases of each kind that a test looks at.
@@ -199,25 +171,21 @@ mod tests {
     fn mismatches(open: Open) -> BTreeMap<&'static str, u64> {
         let count = |(seed, kind): (u64, &'static Kind)| {
             let cases = if kind.cases < FEW { 100 } else { FEW };
-            (kind.name, compare(open, seed, kind, cases).mismatches)
+            let found = compare::<Desk>(open, seed, kind, cases);
+            (kind.name, found.mismatches)
         };
-        let all = (1..).zip(&KINDS).map(count);
+        let all = (SEED..).zip(&KINDS).map(count);
         all.filter(|(_, mismatches)| *mismatches > 0).collect()
     }
 
     /// The rule's answers on the first cases of a kind.
     fn answers(name: &str) -> BTreeMap<u64, u64> {
-        let (seed, kind) = (1..)
-            .zip(&KINDS)
-            .find(|(_, kind)| kind.name == name)
-            .expect("a kind");
-        let mut seen = BTreeMap::new();
-        for case in (0..FEW).map(|number| kind.case(seed, number)) {
+        let (seed, kind) = named(name, SEED, &KINDS);
+        tally((0..FEW).map(|number| {
+            let case = kind.case(seed, number);
             let (mut out, mut journal) = (vec![0; case.out], vec![0; case.journal]);
-            let answer = rule::open(&case.file, case.scratch as u64, &mut out, &mut journal);
-            *seen.entry(answer.min(64)).or_default() += 1;
-        }
-        seen
+            rule::open(&case.file, case.scratch as u64, &mut out, &mut journal).min(64)
+        }))
     }
 
     /// Each kind reaches the answers that it is for, and no good file is refused.
@@ -262,7 +230,8 @@ mod tests {
     #[test]
     fn plain_open_agrees() {
         assert_eq!(mismatches(plain_open), BTreeMap::new());
-        assert_eq!(compare_fixed(plain_open).mismatches, 0);
+        let found = compare_fixed::<Desk>(plain_open, fixed());
+        assert_eq!(found.mismatches, 0);
     }
 
     /// Made-up faults are found, and where they should be.
@@ -297,7 +266,7 @@ mod tests {
     #[test]
     fn the_smallest_is_told() {
         let wrong: Open = |_, _, _, _| 5;
-        let what = compare(wrong, 1, &KINDS[0], 300).found();
+        let what = compare::<Desk>(wrong, SEED, &KINDS[0], 300).found();
         assert_eq!((what.cases, what.mismatches), (300, 300));
         let what = what.smallest.expect("a mismatch");
         assert!(what.contains("g 1, 0 records, file 64"), "{what}");

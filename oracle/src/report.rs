@@ -31,16 +31,18 @@ impl Report {
     pub(crate) fn run(&mut self, name: &str, comparison: impl FnOnce() -> Found) {
         let started = Instant::now();
         let found = comparison();
+        // To compare no case is no agreement.
+        let mismatches = found.mismatches.max(u64::from(found.cases == 0));
         println!(
             "{name:<28} {}",
-            numbers(found.cases, found.mismatches, started.elapsed())
+            numbers(found.cases, mismatches, started.elapsed())
         );
         if let Some(smallest) = &found.smallest {
             println!("  smallest: {smallest}");
         }
         self.comparisons += 1;
         self.cases += found.cases;
-        self.mismatches += found.mismatches;
+        self.mismatches += mismatches;
     }
 
     /// Prints the final line and says whether all agreed; to compare nothing is no agreement.
@@ -59,4 +61,26 @@ fn numbers(cases: u64, mismatches: u64, time: Duration) -> String {
         "{cases:>12} cases {mismatches:>9} mismatches {:>8.3} s",
         time.as_secs_f64()
     )
+}
+
+#[cfg(test)]
+mod tests {
+    use super::*;
+
+    /// Whether a comparison of so many cases with so many mismatches is told as agreement.
+    fn agreed(cases: u64, mismatches: u64) -> bool {
+        let mut report = Report::new();
+        report.run("test", || Found {
+            cases,
+            mismatches,
+            smallest: None,
+        });
+        report.finish()
+    }
+
+    #[test]
+    fn nothing_compared_is_no_agreement() {
+        assert!(agreed(1, 0) && !agreed(1, 1) && !agreed(0, 0));
+        assert!(!Report::new().finish());
+    }
 }

@@ -97,12 +97,12 @@ pub(crate) fn narrow_bytes() -> Vec<u8> {
 fn bytes_of(kind: &str) -> Result<Vec<u8>, String> {
     match kind {
         "narrow" => Ok(narrow_bytes()),
-        "open" => Ok(open::bytes()),
-        "build" => Ok(build::bytes()),
-        "edit" => Ok(edit::bytes()),
+        "open" => Ok(blocks::bytes::<open::Stored>()),
+        "build" => Ok(blocks::bytes::<build::Stored>()),
+        "edit" => Ok(blocks::bytes::<edit::Stored>()),
         "ray" => Ok(ray::bytes()),
-        "inside" => Ok(inside::bytes()),
-        "fill" => Ok(fill::bytes()),
+        "inside" => Ok(blocks::bytes::<inside::Stored>()),
+        "fill" => Ok(blocks::bytes::<fill::Stored>()),
         _ => Err(format!("no stored answers of the kind {kind:?}")),
     }
 }
@@ -141,12 +141,12 @@ pub(crate) fn verify(kind: &str, file: &Path) -> Result<String, String> {
 /// Holds the library to the stored answers, and the stored answers to Rust.
 pub(crate) fn check(report: &mut Report) {
     check_file(report, "narrow.bin", replay_narrow);
-    check_file(report, "open.bin", open::replay);
-    check_file(report, "build.bin", build::replay);
-    check_file(report, "edit.bin", edit::replay);
+    check_file(report, "open.bin", blocks::replay::<open::Stored>);
+    check_file(report, "build.bin", blocks::replay::<build::Stored>);
+    check_file(report, "edit.bin", blocks::replay::<edit::Stored>);
     check_file(report, "ray.bin", ray::replay);
-    check_file(report, "inside.bin", inside::replay);
-    check_file(report, "fill.bin", fill::replay);
+    check_file(report, "inside.bin", blocks::replay::<inside::Stored>);
+    check_file(report, "fill.bin", blocks::replay::<fill::Stored>);
 }
 
 fn check_file(report: &mut Report, name: &str, replay: fn(&[u8]) -> Found) {

@@ -310,7 +310,7 @@ mod tests {
 
     #[test]
     fn faults_are_found() {
-        assert_eq!(found(|input| line(input)), Vec::<&str>::new());
+        assert_eq!(found(line), Vec::<&str>::new());
         let all = fixed().len();
         assert_eq!(found(|input| line(input).trim_end().to_owned()).len(), all);
         assert_eq!(found(|input| line(input).repeat(2)).len(), all);

@@ -226,16 +226,18 @@ fn entries<const N: usize>(list: &[u8]) -> Vec<[f64; N]> {
 }
 
 fn outside(fault: Fault, number: f64, bound: f64) -> bool {
+    let magnitude = number.abs();
     match fault {
-        Fault::BoundExcluded => !(number.abs() < bound),
-        Fault::NanPasses => number > bound || number < -bound,
-        _ => !(number.abs() <= bound),
+        Fault::BoundExcluded => magnitude >= bound || magnitude.is_nan(),
+        Fault::NanPasses => magnitude > bound,
+        _ => magnitude > bound || magnitude.is_nan(),
     }
 }
 
 /// Whether a list ends inside an entry, or has more than the most.
 fn is_long(fault: Fault, list: &[u8], entry: usize, most: usize) -> bool {
-    list.len() > most * entry || list.len() % entry > 0 && fault != Fault::RestOfListIgnored
+    list.len() > most * entry
+        || !list.len().is_multiple_of(entry) && fault != Fault::RestOfListIgnored
 }
 
 fn judge_mesh(fault: Fault, list: &[u8]) -> Result<Vec<Triangle>, u64> {
@@ -367,8 +369,8 @@ impl Plain {
         let u = over(dot(s, p));
         let edge =
             u == 0.0 && self.has(Fault::UAboveZero) || u == 1.0 && self.has(Fault::UBelowOne);
-        let outside = u < 0.0 || u > 1.0;
-        if outside && !self.has(Fault::UNotTested) || edge {
+        let (below, above) = (u < 0.0, u > 1.0);
+        if (below || above) && !self.has(Fault::UNotTested) || edge {
             return None;
         }
         let q = cross(s, e1);

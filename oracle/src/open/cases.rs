@@ -175,6 +175,22 @@ impl Case {
         HEADER + RECORD * self.records
     }
 
+    /// The bytes of what open and build are both lent.
+    pub(crate) fn size(&self) -> usize {
+        self.file.len() + 4 * self.scratch + self.out
+    }
+
+    pub(crate) fn described(&self) -> String {
+        format!(
+            "g {}, {} records, file {}, scratch {}, output {}",
+            self.grid,
+            self.records,
+            self.file.len(),
+            self.scratch,
+            self.out
+        )
+    }
+
     /// Sets bytes, unless the file has been cut short of them.
     fn put(&mut self, at: usize, bytes: &[u8]) {
         if let Some(place) = self.file.get_mut(at..at + bytes.len()) {

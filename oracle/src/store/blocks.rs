@@ -3,6 +3,78 @@
 use crate::lent::{mixed, Buffers};
 use crate::open::cases::Kind;
 use crate::report::Found;
+use std::fmt::Display;
+
+/// A stored call, or list of calls, with its answer, in a block of its own.
+pub(super) trait Block: Sized {
+    const LENGTH: usize;
+    type Case;
+
+    /// The cases that are stored, in their order.
+    fn cases() -> Vec<Self::Case>;
+
+    /// The case with its answer: the rule's, and the original's where it has one and is at hand.
+    fn of(case: Self::Case) -> Self;
+
+    fn block(&self) -> Vec<u8>;
+
+    /// What stands in a block, or nothing where a length is past its part.
+    fn read(block: &[u8]) -> Option<Self>;
+
+    /// What is wrong with it, by the library, by the rule or by the original.
+    fn wrong(&self) -> Option<String>;
+}
+
+/// The bytes of a file of stored answers.
+pub(super) fn bytes<B: Block>() -> Vec<u8> {
+    let stored = B::cases().into_iter().map(B::of);
+    stored.flat_map(|stored| stored.block()).collect()
+}
+
+/// Holds the library, the rule and the original to the stored answers.
+pub(super) fn replay<B: Block>(stored: &[u8]) -> Found {
+    replay_by(B::LENGTH, stored, |block| match B::read(block) {
+        Some(stored) => stored.wrong(),
+        None => Some("a length past its part, or a call of no kind".into()),
+    })
+}
+
+/// Looks at each block of this length with `wrong`.
+pub(super) fn replay_by(
+    length: usize,
+    stored: &[u8],
+    wrong: impl Fn(&[u8]) -> Option<String>,
+) -> Found {
+    let blocks = stored.chunks_exact(length);
+    let rest = blocks.remainder();
+    let told = (0..)
+        .zip(blocks.clone())
+        .filter_map(|(number, block): (u64, _)| {
+            wrong(block).map(|what| format!("case {number}: {what}"))
+        });
+    let mut told: Vec<String> = told.collect();
+    if !rest.is_empty() {
+        told.push("the file ends inside a case".into());
+    }
+    Found {
+        cases: blocks.len() as u64,
+        mismatches: told.len() as u64,
+        smallest: told.into_iter().next(),
+    }
+}
+
+/// What is told where an answer, or the bytes that go with it, are not as stored.
+pub(super) fn unlike<A: PartialEq + Display>(
+    by: &str,
+    stored: &A,
+    told: &A,
+    same_bytes: bool,
+) -> Option<String> {
+    if told != stored {
+        return Some(format!("stored {stored}, {by} {told}"));
+    }
+    (!same_bytes).then(|| format!("stored {stored}, {by} has other bytes"))
+}
 
 pub(super) fn bytes_of(words: &[u32]) -> Vec<u8> {
     words.iter().flat_map(|word| word.to_le_bytes()).collect()
@@ -65,26 +137,55 @@ pub(super) fn kept(lent: &Buffers, file: &[u8], answer: u64) -> bool {
     told.is_none() && lent.file.slice() == file
 }
 
-/// Looks at each block of this length with `wrong`.
-pub(super) fn replay(
-    length: usize,
-    stored: &[u8],
-    wrong: impl Fn(&[u8]) -> Option<String>,
-) -> Found {
-    let blocks = stored.chunks_exact(length);
-    let rest = blocks.remainder();
-    let told = (0..)
-        .zip(blocks.clone())
-        .filter_map(|(number, block): (u64, _)| {
-            wrong(block).map(|what| format!("case {number}: {what}"))
+/// What the tests of the stored answers share.
+#[cfg(test)]
+pub(super) mod testing {
+    use super::*;
+
+    /// Each case with its block and what is read back from that, which has the same block; so many bytes in all.
+    pub(in super::super) fn read_back<B: Block>(length: usize) -> Vec<(B::Case, Vec<u8>, B)> {
+        let bytes = bytes::<B>();
+        assert_eq!(bytes.len(), length);
+        let blocks = bytes.chunks_exact(B::LENGTH);
+        assert!(blocks.remainder().is_empty());
+        let cases = B::cases();
+        assert_eq!(blocks.len(), cases.len());
+        let read = cases.into_iter().zip(blocks).map(|(case, block)| {
+            let stored = B::read(block).expect("a case");
+            assert_eq!(stored.block(), block);
+            (case, block.to_vec(), stored)
         });
-    let mut told: Vec<String> = told.collect();
-    if !rest.is_empty() {
-        told.push("the file ends inside a case".into());
+        read.collect()
     }
-    Found {
-        cases: blocks.len() as u64,
-        mismatches: told.len() as u64,
-        smallest: told.into_iter().next(),
+
+    /// Faults that are planted are found by the stored answers; each is named by what shows it elsewhere.
+    pub(in super::super) fn faults_are_found<B: Block, F: Copy>(
+        faults: &[(F, &str)],
+        unlike: fn(&B, F) -> Option<String>,
+    ) {
+        let stored: Vec<B> = B::cases().into_iter().map(B::of).collect();
+        for (number, &(faulty, name)) in faults.iter().enumerate() {
+            let found = stored.iter().any(|stored| unlike(stored, faulty).is_some());
+            assert!(found, "fault {number}, shown by {name}");
+        }
+    }
+
+    /// A changed answer is seen, at this byte of a block; so are changes elsewhere, by block, byte and bits, and a cut end.
+    pub(in super::super) fn changes_are_seen<B: Block>(
+        answer: usize,
+        others: &[(usize, usize, u8)],
+    ) {
+        let mut bytes = bytes::<B>();
+        let cases = (bytes.len() / B::LENGTH) as u64;
+        assert_eq!(replay::<B>(&bytes).mismatches, 0);
+        bytes[17 * B::LENGTH + answer] ^= 1;
+        assert_eq!(replay::<B>(&bytes).mismatches, 1);
+        for &(block, at, bits) in others {
+            bytes[block * B::LENGTH + at] ^= bits;
+        }
+        bytes.pop();
+        let found = replay::<B>(&bytes);
+        let told = others.len() as u64 + 2;
+        assert_eq!((found.cases, found.mismatches), (cases - 1, told));
     }
 }

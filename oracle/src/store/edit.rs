@@ -5,15 +5,13 @@
 //! kind (1 put, 2 remove, 3 undo), x, y, z and the masses' float bits; at 1,920 the answers, 24 words; at 2,016 the file's buffer
 //! after the last call; at 3,040 the journal after it. What a call has no use for, and what is left of each part, is 0.
 
-use super::blocks::{self, bytes_of, laid, words_of};
+use super::blocks::{bytes_of, laid, words_of, Block};
 use crate::edit::cases::{Case, DAMAGED, HISTORIES};
 use crate::edit::{library, small_fixed, Edit};
 use crate::lent::Lent;
-use crate::report::Found;
 use crate::rule;
 use crate::rule::edit::Call;
 
-const BLOCK: usize = 8192;
 const CASES: usize = 250;
 
 const PART: usize = 1024;
@@ -41,7 +39,7 @@ const SEED: u64 = 0x6564_6974;
 
 /// Calls in turn with their answers, and both buffers before and after them.
 #[derive(Clone)]
-struct Stored {
+pub(super) struct Stored {
     file: [Vec<u8>; 2],
     journal: [Vec<u32>; 2],
     calls: Vec<Call>,
@@ -72,8 +70,48 @@ fn call_of(words: &[u32]) -> Option<Call> {
     }
 }
 
-impl Stored {
-    /// The case with the rule's answers.
+/// Whether a case is small and fits into a block.
+fn fits(case: &Case) -> bool {
+    case.grid <= 6
+        && case.file.len() <= PART
+        && case.journal.len() <= WORDS
+        && case.calls.len() <= CALLS
+}
+
+impl Block for Stored {
+    const LENGTH: usize = 8192;
+    type Case = Case;
+
+    /// The small fixed cases, then the kinds in turn, each with the next of its cases that fit.
+    fn cases() -> Vec<Case> {
+        let mut opened: Vec<_> = HISTORIES
+            .iter()
+            .map(|kind| {
+                let histories = (0..kind.cases).map(|number| kind.history(SEED, number));
+                let small = histories.filter(|history| history.grid <= 6);
+                small.map(|history| history.opened()).filter(fits)
+            })
+            .collect();
+        let mut damaged: Vec<_> = DAMAGED
+            .iter()
+            .map(|kind| {
+                let cases = (0..kind.cases).map(|number| kind.case(SEED, number));
+                let some = 1 + usize::from(OF_MANY_WAYS.contains(&kind.name));
+                (cases.filter(fits), some)
+            })
+            .collect();
+        // Long histories and large grids have none that fit.
+        opened.retain_mut(|cases| cases.next().is_some());
+        let fixed = small_fixed();
+        let mut cases: Vec<Case> = fixed.iter().map(|fixed| (fixed.case)()).collect();
+        while cases.len() < CASES {
+            cases.extend(opened.iter_mut().flat_map(|kind| kind.take(OPENED)));
+            cases.extend(damaged.iter_mut().flat_map(|(kind, some)| kind.take(*some)));
+        }
+        cases.truncate(CASES);
+        cases
+    }
+
     fn of(case: Case) -> Self {
         let mut stored = Self {
             file: [case.file.clone(), case.file],
@@ -81,7 +119,7 @@ impl Stored {
             calls: case.calls,
             answers: Vec::new(),
         };
-        run(rule::edit::edit, &mut stored);
+        stored.run(rule::edit::edit);
         stored
     }
 
@@ -98,10 +136,10 @@ impl Stored {
             (FILE_AFTER, &self.file[1]),
             (JOURNAL_AFTER, &bytes_of(&self.journal[1])),
         ];
-        laid(BLOCK, &parts)
+        laid(Self::LENGTH, &parts)
     }
 
-    /// The case in a block, or nothing where a length is past its part or a call is none.
+    /// Nothing where a call is none, too.
     fn read(block: &[u8]) -> Option<Self> {
         let [file, journal, count] = [0, 4, 8].map(|at| words_of(&block[at..at + 4])[0] as usize);
         if file > PART || journal > WORDS || count > CALLS {
@@ -118,115 +156,57 @@ impl Stored {
             answers: answers.collect(),
         })
     }
-}
 
-/// Whether a case is small and fits into a block.
-fn fits(case: &Case) -> bool {
-    case.grid <= 6
-        && case.file.len() <= PART
-        && case.journal.len() <= WORDS
-        && case.calls.len() <= CALLS
-}
-
-/// The small fixed cases, then the kinds in turn, each with the next of its cases that fit.
-fn cases() -> Vec<Case> {
-    let mut opened: Vec<_> = HISTORIES
-        .iter()
-        .map(|kind| {
-            let histories = (0..kind.cases).map(|number| kind.history(SEED, number));
-            let small = histories.filter(|history| history.grid <= 6);
-            small.map(|history| history.opened()).filter(fits)
-        })
-        .collect();
-    let mut damaged: Vec<_> = DAMAGED
-        .iter()
-        .map(|kind| {
-            let cases = (0..kind.cases).map(|number| kind.case(SEED, number));
-            let some = 1 + usize::from(OF_MANY_WAYS.contains(&kind.name));
-            (cases.filter(fits), some)
-        })
-        .collect();
-    // Long histories and large grids have none that fit.
-    opened.retain_mut(|cases| cases.next().is_some());
-    let fixed = small_fixed();
-    let mut cases: Vec<Case> = fixed.iter().map(|fixed| (fixed.case)()).collect();
-    while cases.len() < CASES {
-        cases.extend(opened.iter_mut().flat_map(|kind| kind.take(OPENED)));
-        cases.extend(damaged.iter_mut().flat_map(|(kind, some)| kind.take(*some)));
+    fn wrong(&self) -> Option<String> {
+        self.differs("library", library)
+            .or_else(|| self.differs("rule", rule::edit::edit))
     }
-    cases.truncate(CASES);
-    cases
 }
 
-/// The bytes of `edit.bin`.
-pub(super) fn bytes() -> Vec<u8> {
-    cases()
-        .into_iter()
-        .flat_map(|case| Stored::of(case).block())
-        .collect()
-}
+impl Stored {
+    /// Makes the calls on the buffers before, in the place of those after; whether no write went outside them.
+    fn run(&mut self, edit: Edit) -> bool {
+        let (mut file, mut journal) = (Lent::new(), Lent::new());
+        file.fill(0, self.file[0].iter().copied());
+        journal.fill(0, self.journal[0].iter().copied());
+        let answer = |call| edit(file.slice_mut(), journal.slice_mut(), call);
+        self.answers = self.calls.iter().map(answer).collect();
+        self.file[1] = file.slice().to_vec();
+        self.journal[1] = journal.slice().to_vec();
+        file.intact() && journal.intact()
+    }
 
-/// Makes the calls on the buffers before, in the place of those after; whether no write went outside them.
-fn run(edit: Edit, stored: &mut Stored) -> bool {
-    let (mut file, mut journal) = (Lent::new(), Lent::new());
-    file.fill(0, stored.file[0].iter().copied());
-    journal.fill(0, stored.journal[0].iter().copied());
-    let answer = |call| edit(file.slice_mut(), journal.slice_mut(), call);
-    stored.answers = stored.calls.iter().map(answer).collect();
-    stored.file[1] = file.slice().to_vec();
-    stored.journal[1] = journal.slice().to_vec();
-    file.intact() && journal.intact()
-}
-
-/// What is wrong with a block, by the library or by the rule.
-fn wrong(edit: Edit, block: &[u8]) -> Option<String> {
-    let Some(stored) = Stored::read(block) else {
-        return Some("a length past its part, or a call of no kind".into());
-    };
-    let differs = |by: &str, edit: Edit| {
-        let mut told = stored.clone();
-        let kept = run(edit, &mut told);
-        let calls = stored.answers.iter().zip(&told.answers);
-        if let Some(at) = calls.clone().position(|(a, b)| a != b) {
-            let (stored, told) = (stored.answers[at], told.answers[at]);
+    fn differs(&self, by: &str, edit: Edit) -> Option<String> {
+        let mut told = self.clone();
+        let kept = told.run(edit);
+        let mut calls = self.answers.iter().zip(&told.answers);
+        if let Some(at) = calls.position(|(a, b)| a != b) {
+            let (stored, told) = (self.answers[at], told.answers[at]);
             return Some(format!("call {at}: stored {stored}, {by} {told}"));
         }
-        let same = told.file == stored.file && told.journal == stored.journal;
+        let same = told.file == self.file && told.journal == self.journal;
         (!same || !kept).then(|| format!("{by}: other bytes after the last call"))
-    };
-    differs("library", edit).or_else(|| differs("rule", rule::edit::edit))
-}
-
-/// Holds the library and the rule to the stored answers.
-pub(super) fn replay(stored: &[u8]) -> Found {
-    replay_by(library, stored)
-}
-
-fn replay_by(edit: Edit, stored: &[u8]) -> Found {
-    blocks::replay(BLOCK, stored, |block| wrong(edit, block))
+    }
 }
 
 #[cfg(test)]
 mod tests {
+    use super::super::blocks::testing::{changes_are_seen, read_back};
     use super::*;
     use crate::edit::plain::{Fault, FAULTS};
-    use std::collections::BTreeMap;
+    use crate::search::tally;
 
     /// Every answer is well represented, by small grids and one great one; most buffers are as open leaves them.
     #[test]
     fn cases_hold_every_answer() {
-        let (mut answers, mut grids, mut lengths) =
-            (BTreeMap::new(), BTreeMap::new(), BTreeMap::new());
-        let mut opened = 0;
-        for case in cases() {
-            *grids.entry(case.grid).or_insert(0) += 1;
-            *lengths.entry(case.calls.len()).or_insert(0) += 1;
-            opened +=
-                usize::from(case.journal.first() == Some(&0) && rule::judge(&case.file).is_none());
-            for answer in Stored::of(case).answers {
-                *answers.entry(answer.min(64)).or_insert(0) += 1;
-            }
-        }
+        let cases = Stored::cases();
+        let grids = tally(cases.iter().map(|case| case.grid));
+        let lengths = tally(cases.iter().map(|case| case.calls.len()));
+        let as_opened =
+            |case: &&Case| case.journal.first() == Some(&0) && rule::judge(&case.file).is_none();
+        let opened = cases.iter().filter(as_opened).count();
+        let stored = cases.into_iter().map(Stored::of);
+        let answers = tally(stored.flat_map(|stored| stored.answers).map(|a| a.min(64)));
         let all = [1, 2, 3, 4, 5, 6, 7, 10, 11, 12, 13, 14, 15, 16, 64];
         assert!(answers.keys().eq(&all), "{answers:?}");
         assert!(answers.values().all(|&calls| calls >= 4), "{answers:?}");
@@ -239,11 +219,7 @@ mod tests {
     /// Blocks are laid out as the head of this file says, and are read back.
     #[test]
     fn blocks_hold_the_cases() {
-        let bytes = bytes();
-        assert_eq!(bytes.len(), 250 * 8192);
-        let (blocks, rest) = bytes.as_chunks::<BLOCK>();
-        assert!(rest.is_empty());
-        for (case, block) in cases().into_iter().zip(blocks) {
+        for (case, block, stored) in read_back::<Stored>(250 * 8192) {
             let lengths = [case.file.len(), case.journal.len(), case.calls.len()];
             assert_eq!(words_of(&block[..12]), lengths.map(|length| length as u32));
             assert_eq!(block[64..64 + case.file.len()], case.file);
@@ -251,11 +227,7 @@ mod tests {
             assert_eq!(block[1088..1088 + journal.len()], journal);
             let outside = block[12..64].iter().chain(&block[3296..]);
             assert!(outside.clone().all(|&byte| byte == 0));
-            let stored = Stored::read(block).expect("a case");
-            assert_eq!(
-                (stored.block(), stored.calls.len()),
-                (block.to_vec(), lengths[2])
-            );
+            assert_eq!(stored.calls.len(), lengths[2]);
             for (at, call) in case.calls.iter().enumerate() {
                 let words = words_of(&block[1344 + 24 * at..1368 + 24 * at]);
                 assert_eq!(call_of(&words), Some(*call));
@@ -271,27 +243,22 @@ mod tests {
     /// Faults are found by the stored answers too, but for those that need a journal of 2^24 entries.
     #[test]
     fn faults_are_found() {
-        let bytes = bytes();
-        let unseen = FAULTS
-            .iter()
-            .filter(|(_, faulty, _)| replay_by(*faulty, &bytes).mismatches == 0)
-            .map(|(fault, _, _)| *fault);
+        let stored: Vec<Stored> = Stored::cases().into_iter().map(Stored::of).collect();
+        let seen = |edit: Edit| stored.iter().any(|s| s.differs("library", edit).is_some());
+        let unseen = FAULTS.iter().filter(|(_, faulty, _)| !seen(*faulty));
+        let unseen = unseen.map(|(fault, _, _)| *fault);
         let unseen: Vec<Fault> = unseen.collect();
         assert_eq!(unseen, [Fault::OneEntryFewer, Fault::OneEntryMore]);
     }
 
     #[test]
     fn a_wrong_answer_is_seen() {
-        let mut bytes = bytes();
-        assert_eq!(replay(&bytes).mismatches, 0);
-        bytes[17 * BLOCK + ANSWERS] ^= 1;
-        assert_eq!(replay(&bytes).mismatches, 1);
-        bytes[18 * BLOCK + FILE_AFTER + 70] ^= 1;
-        bytes[19 * BLOCK + JOURNAL_AFTER] ^= 1;
-        bytes[20 * BLOCK + 8] = 25;
-        bytes[21 * BLOCK + CALLS_AT] = 4;
-        bytes.pop();
-        let found = replay(&bytes);
-        assert_eq!((found.cases, found.mismatches), (249, 6));
+        let others = [
+            (18, FILE_AFTER + 70, 1),
+            (19, JOURNAL_AFTER, 1),
+            (20, 8, 0x80),
+            (21, CALLS_AT, 4),
+        ];
+        changes_are_seen::<Stored>(ANSWERS, &others);
     }
 }

@@ -4,17 +4,15 @@
 //! the answer, a zero. At 32 the target mass and the density, binary64; at 64 the mesh, 1,440 bytes; at 1,504 and 1,904 the kernels,
 //! 400 bytes each; at 2,304 the output before, at 5,248 the output after, 2,944 bytes each. What is left of each part is 0.
 
-use super::blocks::{self, bytes_of, in_turn, laid, words_of};
+use super::blocks::{bytes_of, in_turn, laid, unlike, words_of, Block};
 use crate::ffi;
 use crate::fill::cases::{Case, KINDS};
 use crate::fill::{called, fixed, unlike_the_original, Fill};
 use crate::meshes::bytes as number_bytes;
 use crate::original;
-use crate::report::Found;
 use crate::rule;
 use crate::rule::fill::numbers;
 
-const BLOCK: usize = 8192;
 const CASES: usize = 250;
 
 const LONE: usize = 32;
@@ -32,14 +30,42 @@ const SEED: u64 = 0x6669_6c6c;
 
 /// One call with its answer, the output before and after it.
 #[derive(Clone)]
-struct Stored {
+pub(super) struct Stored {
     case: Case,
     answer: u64,
     out: [Vec<u8>; 2],
 }
 
-impl Stored {
-    /// The case with the rule's answer; the file is the original's where it is at hand.
+/// The rule's answer, and the output after it.
+fn by_rule(case: &Case, out: &[u8]) -> (u64, Vec<u8>) {
+    let mut out = out.to_vec();
+    let answer = rule::fill::fill(&case.body(), case.floats as u64, &mut out);
+    (answer, out)
+}
+
+/// Whether a case is small and fits into a block.
+fn fits(case: &Case) -> bool {
+    case.triangles.len() <= MESH_PART
+        && case.cauchy.len() <= KERNEL_PART
+        && case.elliptic.len() <= KERNEL_PART
+        && case.floats <= FLOATS
+        && case.out <= OUT_PART
+}
+
+impl Block for Stored {
+    const LENGTH: usize = 8192;
+    type Case = Case;
+
+    /// The small fixed cases, then the kinds in turn, each with the next of its cases that fits.
+    fn cases() -> Vec<Case> {
+        let fixed = fixed::small().into_iter().map(|(_, case, _)| case);
+        let mut cases: Vec<Case> = fixed.filter(fits).collect();
+        let rest = CASES - cases.len();
+        cases.extend(in_turn(&KINDS, SEED, fits, rest));
+        cases
+    }
+
+    /// The file is the original's where it is at hand.
     fn of(case: Case) -> Self {
         let out: Vec<u8> = case.out_before().collect();
         let (answer, mut after) = by_rule(&case, &out);
@@ -75,10 +101,9 @@ impl Stored {
             (OUT_BEFORE, &self.out[0]),
             (OUT_AFTER, &self.out[1]),
         ];
-        laid(BLOCK, &parts)
+        laid(Self::LENGTH, &parts)
     }
 
-    /// The case in a block, or nothing where a length is past its part.
     fn read(block: &[u8]) -> Option<Self> {
         let words = words_of(&block[..28]);
         let length = |place: usize| words[place] as usize;
@@ -108,90 +133,39 @@ impl Stored {
             out: [before, after],
         })
     }
-}
 
-/// The rule's answer, and the output after it.
-fn by_rule(case: &Case, out: &[u8]) -> (u64, Vec<u8>) {
-    let mut out = out.to_vec();
-    let answer = rule::fill::fill(&case.body(), case.floats as u64, &mut out);
-    (answer, out)
-}
-
-/// Whether a case is small and fits into a block.
-fn fits(case: &Case) -> bool {
-    case.triangles.len() <= MESH_PART
-        && case.cauchy.len() <= KERNEL_PART
-        && case.elliptic.len() <= KERNEL_PART
-        && case.floats <= FLOATS
-        && case.out <= OUT_PART
-}
-
-/// The small fixed cases, then the kinds in turn, each with the next of its cases that fits.
-fn cases() -> Vec<Case> {
-    let fixed = fixed::small().into_iter().map(|(_, case, _)| case);
-    let mut cases: Vec<Case> = fixed.filter(fits).collect();
-    let rest = CASES - cases.len();
-    cases.extend(in_turn(&KINDS, SEED, fits, rest));
-    cases
-}
-
-/// The bytes of `fill.bin`.
-pub(super) fn bytes() -> Vec<u8> {
-    cases()
-        .into_iter()
-        .flat_map(|case| Stored::of(case).block())
-        .collect()
+    fn wrong(&self) -> Option<String> {
+        self.unlike_the_library(ffi::fill)
+            .or_else(|| self.unlike_the_rule())
+            .or_else(|| unlike_the_original(&self.case.body(), self.answer, &self.out[1]))
+    }
 }
 
 impl Stored {
-    fn differs(&self, by: &str, answer: u64, out: &[u8]) -> Option<String> {
-        let other = answer != self.answer || out != self.out[1];
-        other.then(|| format!("stored {}, {by} {answer} or other bytes", self.answer))
-    }
-
     fn unlike_the_library(&self, fill: Fill) -> Option<String> {
         let (answer, out, besides) = called(fill, &self.case, &self.out[0]);
-        self.differs("library", answer, &out).or(besides)
+        unlike("library", &self.answer, &answer, out == self.out[1]).or(besides)
     }
 
     fn unlike_the_rule(&self) -> Option<String> {
         let (answer, out) = by_rule(&self.case, &self.out[0]);
-        self.differs("rule", answer, &out)
+        unlike("rule", &self.answer, &answer, out == self.out[1])
     }
-}
-
-/// What is wrong with a block, by the library, by the rule or by the original.
-fn wrong(block: &[u8]) -> Option<String> {
-    let Some(stored) = Stored::read(block) else {
-        return Some("a length past its part".into());
-    };
-    let Stored { case, answer, out } = &stored;
-    stored
-        .unlike_the_library(ffi::fill)
-        .or_else(|| stored.unlike_the_rule())
-        .or_else(|| unlike_the_original(&case.body(), *answer, &out[1]))
-}
-
-/// Holds the library, the rule and the original to the stored answers.
-pub(super) fn replay(stored: &[u8]) -> Found {
-    blocks::replay(BLOCK, stored, wrong)
 }
 
 #[cfg(test)]
 mod tests {
+    use super::super::blocks::testing::{self, changes_are_seen, read_back};
     use super::*;
     use crate::fill::plain::FILL_FAULTS;
-    use std::collections::BTreeMap;
+    use crate::search::tally;
 
     /// Every answer is well represented, by every grid size that fits.
     #[test]
     fn cases_hold_every_answer() {
-        let (mut answers, mut grids) = (BTreeMap::new(), BTreeMap::new());
-        for case in cases() {
-            *grids.entry(case.grid).or_insert(0) += 1;
-            let answer = Stored::of(case).answer;
-            *answers.entry(answer.min(64)).or_insert(0) += 1;
-        }
+        let grids = tally(Stored::cases().iter().map(|case| case.grid));
+        let stored = Stored::cases().into_iter().map(Stored::of);
+        let answers = tally(stored.map(|stored| stored.answer.min(64)));
         assert!(
             answers.keys().eq(&[3, 8, 9, 17, 18, 19, 20, 64]),
             "{answers:?}"
@@ -204,11 +178,7 @@ mod tests {
     /// Blocks are laid out as the head of this file says, and are read back.
     #[test]
     fn blocks_hold_the_cases() {
-        let bytes = bytes();
-        assert_eq!(bytes.len(), 250 * 8192);
-        let (blocks, rest) = bytes.as_chunks::<BLOCK>();
-        assert!(rest.is_empty());
-        for (case, block) in cases().into_iter().zip(blocks) {
+        for (case, block, stored) in read_back::<Stored>(250 * 8192) {
             let lengths = [
                 case.triangles.len(),
                 case.cauchy.len(),
@@ -225,8 +195,6 @@ mod tests {
             assert_eq!(block[1904..1904 + lengths[2]], case.elliptic);
             let mut rest = block[28..32].iter().chain(&block[48..64]);
             assert!(rest.all(|&byte| byte == 0));
-            let stored = Stored::read(block).expect("lengths that fit");
-            assert_eq!(stored.block(), block);
             match stored.answer {
                 18 | 20 => assert!(block[5248..].iter().all(|&byte| byte == 0)),
                 answer => assert_eq!(block[2304..5248] == block[5248..], answer < 64),
@@ -237,26 +205,11 @@ mod tests {
     /// Faults that are planted are found by the stored answers too.
     #[test]
     fn faults_are_found() {
-        let stored: Vec<Stored> = cases().into_iter().map(Stored::of).collect();
-        for (number, (faulty, name)) in FILL_FAULTS.into_iter().enumerate() {
-            let mut told = stored
-                .iter()
-                .map(|stored| stored.unlike_the_library(faulty));
-            let found = told.any(|told| told.is_some());
-            assert!(found, "fault {number}, shown by {name}");
-        }
+        testing::faults_are_found(&FILL_FAULTS, Stored::unlike_the_library);
     }
 
     #[test]
     fn a_wrong_answer_is_seen() {
-        let mut bytes = bytes();
-        assert_eq!(replay(&bytes).mismatches, 0);
-        bytes[17 * BLOCK + 24] ^= 1;
-        assert_eq!(replay(&bytes).mismatches, 1);
-        bytes[18 * BLOCK + 5248] ^= 1;
-        bytes[19 * BLOCK + 6] = 1;
-        bytes.pop();
-        let found = replay(&bytes);
-        assert_eq!((found.cases, found.mismatches), (249, 4));
+        changes_are_seen::<Stored>(24, &[(18, 5248, 1), (19, 6, 1)]);
     }
 }

@@ -4,15 +4,13 @@
 //! then zeros to byte 64. At 64 the file, at 1,088 the output before, at 2,112 the output after, 1,024 bytes each; at 3,136 the
 //! journal before, at 3,392 the journal after, 64 words each. What is left of each part, and of the block, is 0.
 
-use super::blocks::{self, bytes_of, in_turn, kept, laid, lend, words_of};
+use super::blocks::{bytes_of, in_turn, kept, laid, lend, unlike, words_of, Block};
 use crate::ffi;
 use crate::lent::Lent;
 use crate::open::cases::{Case, KINDS};
 use crate::open::{journal_word, out_byte};
-use crate::report::Found;
 use crate::rule;
 
-const BLOCK: usize = 4096;
 const CASES: usize = 400;
 
 const PART: usize = 1024;
@@ -28,7 +26,7 @@ const SEED: u64 = 0x6f70_656e;
 
 /// One call with its answer.
 #[derive(Clone)]
-struct Stored {
+pub(super) struct Stored {
     file: Vec<u8>,
     scratch: usize,
     out: [Vec<u8>; 2],
@@ -36,8 +34,25 @@ struct Stored {
     answer: u64,
 }
 
-impl Stored {
-    /// The case with the rule's answer.
+/// Whether a case is small and fits into a block.
+fn fits(case: &Case) -> bool {
+    case.grid <= 6
+        && case.records <= 40
+        && case.file.len() <= PART
+        && case.scratch <= 220
+        && case.out <= PART
+        && case.journal <= WORDS
+}
+
+impl Block for Stored {
+    const LENGTH: usize = 4096;
+    type Case = Case;
+
+    /// The kinds in turn, each with the next of its cases that fits.
+    fn cases() -> Vec<Case> {
+        in_turn(&KINDS, SEED, fits, CASES)
+    }
+
     fn of(case: Case) -> Self {
         let out: Vec<u8> = (0..case.out).map(|at| out_byte(case.junk, at)).collect();
         let journal: Vec<u32> = (0..case.journal)
@@ -50,7 +65,7 @@ impl Stored {
             journal: [journal.clone(), journal],
             answer: 0,
         };
-        stored.answer = rule_on(&mut stored);
+        stored.by_rule();
         stored
     }
 
@@ -71,10 +86,9 @@ impl Stored {
             (JOURNAL_BEFORE, &bytes_of(&self.journal[0])),
             (JOURNAL_AFTER, &bytes_of(&self.journal[1])),
         ];
-        laid(BLOCK, &parts)
+        laid(Self::LENGTH, &parts)
     }
 
-    /// The case in a block, or nothing where a length is past its part.
     fn read(block: &[u8]) -> Option<Self> {
         let [file, scratch, out, journal, answer] =
             [0, 4, 8, 12, 16].map(|at| words_of(&block[at..at + 4])[0] as usize);
@@ -91,99 +105,59 @@ impl Stored {
             answer: answer as u64,
         })
     }
-}
 
-/// Whether a case is small and fits into a block.
-fn fits(case: &Case) -> bool {
-    case.grid <= 6
-        && case.records <= 40
-        && case.file.len() <= PART
-        && case.scratch <= 220
-        && case.out <= PART
-        && case.journal <= WORDS
-}
-
-/// The kinds in turn, each with the next of its cases that fits.
-fn cases() -> Vec<Case> {
-    in_turn(&KINDS, SEED, fits, CASES)
-}
-
-/// The bytes of `open.bin`.
-pub(super) fn bytes() -> Vec<u8> {
-    cases()
-        .into_iter()
-        .flat_map(|case| Stored::of(case).block())
-        .collect()
-}
-
-/// Applies the rule to the buffers before, in the place of those after.
-fn rule_on(stored: &mut Stored) -> u64 {
-    let ([before, out], [words, journal]) = (&mut stored.out, &mut stored.journal);
-    out.clone_from(before);
-    journal.clone_from(words);
-    rule::open(&stored.file, stored.scratch as u64, out, journal)
-}
-
-/// The same for the library, and whether it kept to its buffers.
-fn library_on(stored: &mut Stored) -> (u64, bool) {
-    let mut lent = lend(&stored.file, stored.scratch, &stored.out[0]);
-    let mut journal = Lent::new();
-    journal.fill(0, stored.journal[0].iter().copied());
-    let answer = ffi::open(
-        lent.file.slice(),
-        lent.scratch.slice_mut(),
-        lent.out.slice_mut(),
-        journal.slice_mut(),
-    );
-    stored.out[1] = lent.out.slice().to_vec();
-    stored.journal[1] = journal.slice().to_vec();
-    let kept = kept(&lent, &stored.file, answer) && journal.intact();
-    (answer, kept)
-}
-
-/// What is wrong with a block, by the library or by the rule.
-fn wrong(block: &[u8]) -> Option<String> {
-    let Some(stored) = Stored::read(block) else {
-        return Some("a length past its part".into());
-    };
-    let differs = |told: &Stored| told.out != stored.out || told.journal != stored.journal;
-    let mut told = stored.clone();
-    let (answer, kept) = library_on(&mut told);
-    if answer != stored.answer || !kept || differs(&told) {
-        return Some(format!(
-            "stored {}, library {answer} or other bytes",
-            stored.answer
-        ));
+    fn wrong(&self) -> Option<String> {
+        self.differs("library", Self::by_library)
+            .or_else(|| self.differs("rule", Self::by_rule))
     }
-    let answer = rule_on(&mut told);
-    if answer != stored.answer || differs(&told) {
-        return Some(format!(
-            "stored {}, rule {answer} or other bytes",
-            stored.answer
-        ));
-    }
-    None
 }
 
-/// Holds the library and the rule to the stored answers.
-pub(super) fn replay(stored: &[u8]) -> Found {
-    blocks::replay(BLOCK, stored, wrong)
+impl Stored {
+    /// Applies the rule to the buffers before, in the place of those after.
+    fn by_rule(&mut self) -> bool {
+        let ([before, out], [words, journal]) = (&mut self.out, &mut self.journal);
+        out.clone_from(before);
+        journal.clone_from(words);
+        self.answer = rule::open(&self.file, self.scratch as u64, out, journal);
+        true
+    }
+
+    /// The same for the library, and whether it kept to its buffers.
+    fn by_library(&mut self) -> bool {
+        let mut lent = lend(&self.file, self.scratch, &self.out[0]);
+        let mut journal = Lent::new();
+        journal.fill(0, self.journal[0].iter().copied());
+        self.answer = ffi::open(
+            lent.file.slice(),
+            lent.scratch.slice_mut(),
+            lent.out.slice_mut(),
+            journal.slice_mut(),
+        );
+        self.out[1] = lent.out.slice().to_vec();
+        self.journal[1] = journal.slice().to_vec();
+        kept(&lent, &self.file, self.answer) && journal.intact()
+    }
+
+    fn differs(&self, by: &str, run: fn(&mut Self) -> bool) -> Option<String> {
+        let mut told = self.clone();
+        let kept = run(&mut told);
+        let same = kept && told.out == self.out && told.journal == self.journal;
+        unlike(by, &self.answer, &told.answer, same)
+    }
 }
 
 #[cfg(test)]
 mod tests {
+    use super::super::blocks::testing::{changes_are_seen, read_back};
     use super::*;
-    use std::collections::BTreeMap;
+    use crate::search::tally;
 
     /// Every answer is well represented, by small files of every grid size.
     #[test]
     fn cases_hold_every_answer() {
-        let mut answers = BTreeMap::new();
-        let mut grids = BTreeMap::new();
-        for case in cases() {
-            *grids.entry(case.grid).or_insert(0) += 1;
-            *answers.entry(Stored::of(case).answer.min(64)).or_insert(0) += 1;
-        }
+        let grids = tally(Stored::cases().iter().map(|case| case.grid));
+        let stored = Stored::cases().into_iter().map(Stored::of);
+        let answers = tally(stored.map(|stored| stored.answer.min(64)));
         assert!(
             answers.keys().eq(&[1, 2, 3, 4, 5, 6, 7, 8, 9, 13, 64]),
             "{answers:?}"
@@ -196,11 +170,7 @@ mod tests {
     /// Blocks are laid out as the head of this file says, and are read back.
     #[test]
     fn blocks_hold_the_cases() {
-        let bytes = bytes();
-        assert_eq!(bytes.len(), 400 * 4096);
-        let (blocks, rest) = bytes.as_chunks::<BLOCK>();
-        assert!(rest.is_empty());
-        for (case, block) in cases().into_iter().zip(blocks) {
+        for (case, block, stored) in read_back::<Stored>(400 * 4096) {
             assert_eq!(block[64..64 + case.file.len()], case.file);
             let lengths = [case.file.len(), case.scratch, case.out, case.journal];
             assert_eq!(words_of(&block[..16]), lengths.map(|length| length as u32));
@@ -208,8 +178,6 @@ mod tests {
                 .iter()
                 .chain(&block[3648..])
                 .all(|&byte| byte == 0));
-            let stored = Stored::read(block).expect("lengths that fit");
-            assert_eq!(stored.block(), block);
             let refused = stored.answer < 64;
             assert_eq!(block[1088..2112] == block[2112..3136], refused);
             assert_eq!(block[3136..3392] == block[3392..3648], refused);
@@ -218,14 +186,6 @@ mod tests {
 
     #[test]
     fn a_wrong_answer_is_seen() {
-        let mut bytes = bytes();
-        assert_eq!(replay(&bytes).mismatches, 0);
-        bytes[17 * BLOCK + 16] ^= 1;
-        assert_eq!(replay(&bytes).mismatches, 1);
-        bytes[18 * BLOCK] = 0xff;
-        bytes[18 * BLOCK + 1] = 0xff;
-        bytes.pop();
-        let found = replay(&bytes);
-        assert_eq!((found.cases, found.mismatches), (399, 3));
+        changes_are_seen::<Stored>(16, &[(18, 1, 0xff)]);
     }
 }

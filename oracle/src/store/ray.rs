@@ -390,7 +390,7 @@ fn wrong(block: &[u8]) -> Option<String> {
 
 /// Holds the rule, the original and the library to the stored answers.
 pub(super) fn replay(stored: &[u8]) -> Found {
-    blocks::replay(BLOCK, stored, wrong)
+    blocks::replay_by(BLOCK, stored, wrong)
 }
 
 #[cfg(test)]
