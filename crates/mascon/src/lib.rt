@@ -1,6 +1,4 @@
 // The exported library: thin functions for C and Rust to call, over the proved crates. include/mascon.h declares them.
-pub mod number;
-
 ghost use mathlib.Core.Path.{_≡_};
 ghost use Prim.Native.Nat.{_≤_};
 ghost use lib.ListN.{length};

@@ -1,6 +1,4 @@
 // The tree of a point file: counted, then written in preorder.
-pub mod boxes;
-
 ghost use mathlib.Core.Path.{_≡_};
 ghost use mathlib.Core.Bool.{true};
 ghost use Prim.Native.Nat.{_+_, _*_, _≤_, _<_};

@@ -2,8 +2,8 @@
 // `nodes 3 order 9 bytes 340`, or `refused 6` with the cause's number.
 use libc::STDIN_FILENO;
 use libc::STDOUT_FILENO;
-use mascon::number::cause_number;
 use mascon_tree::build_mascon_tree;
+use number::cause_number;
 use rtm1::Built;
 
 // A word, and a number behind it.

@@ -1,13 +1,5 @@
 // Replays stored answers of the Rust oracle and says how many are the same. oracle/README.md says how they were made.
-mod built;
-mod crossed;
-mod edited;
-mod filled;
-mod narrowed;
-mod opened;
-mod parts;
 mod replay;
-mod sided;
 
 use replay::Kind;
 use replay::replay_file;

@@ -23,8 +23,8 @@ use Rattle.mascon_tree.proofs.Written.{room-low, room-high, written-spl
 use Rattle.mascon_tree.proofs.build_mascon_node.Reads as build-mascon-node
 use Rattle.mascon_tree.proofs.build_mascon_node.Kinds as kinds
 use Rattle.mascon_tree.proofs.+build_mascon_node.Lts-build_mascon_node as lts
-use Rattle.mascon_tree.proofs.boxes.halves.Reads as halves-reads
-use Rattle.mascon_tree.proofs.boxes.kind_of.Reads as kind-of-reads
+use Rattle.boxes.proofs.halves.Reads as halves-reads
+use Rattle.boxes.proofs.kind_of.Reads as kind-of-reads
 use Rattle.mascon_tree.proofs.out_empty.Reads as out-empty-reads
 use Rattle.mascon_tree.proofs.out_leaf.Reads as out-leaf-reads
 use Rattle.mascon_tree.proofs.out_split.Reads as out-split-reads

@@ -18,8 +18,8 @@ use Rattle.mascon_tree.proofs.Counted.{one-empty, one-leaf, nodes-fit, 
 use Rattle.mascon_tree.proofs.count_nodes.Reads as count-nodes
 use Rattle.mascon_tree.proofs.count_nodes.Kinds as kinds
 use Rattle.mascon_tree.proofs.+count_nodes.Lts-count_nodes as lts
-use Rattle.mascon_tree.proofs.boxes.halves.Reads as halves-reads
-use Rattle.mascon_tree.proofs.boxes.kind_of.Reads as kind-of-reads
+use Rattle.boxes.proofs.halves.Reads as halves-reads
+use Rattle.boxes.proofs.kind_of.Reads as kind-of-reads
 use Rattle.sums.proofs.counted.count_of.Reads as count-of-reads
 use Rattle.mascon_tree.proofs.+count_nodes.{statement}
 use Rattle.mascon_tree.proofs.+count_nodes.Tie.{close}
