@@ -1,11 +1,11 @@
 # What the scripts share. Sourced from fuzz/, with the repository one folder up.
 targets="narrow inside fill open build put remove undo history"
 built=target
-if [ -n "${MASCON_LIB:-}" ]; then # given from the caller's folder
-    case $MASCON_LIB in /*) ;; *) MASCON_LIB=$OLDPWD/$MASCON_LIB ;; esac
-    export MASCON_LIB
+if [ -n "${MASCON_LIB_DIR:-}" ]; then # given from the caller's folder
+    case $MASCON_LIB_DIR in /*) ;; *) MASCON_LIB_DIR=$OLDPWD/$MASCON_LIB_DIR ;; esac
+    export MASCON_LIB_DIR
 fi
-shipped=${MASCON_LIB:-../target/staticlib}/libmascon.a
+shipped=${MASCON_LIB_DIR:-../target/staticlib}/libmascon.a
 covered=$built/libmascon-covered.a
 # The rule's float steps are single ones: no compiler may join a product and a sum into one rounding.
 flags="-O1 -g -ffp-contract=off -Wall -Wextra -Wno-unused-function"
@@ -30,7 +30,7 @@ need_clang() {
 need_library() {
     local call calls
     if [ ! -f "$shipped" ]; then
-        [ -z "${MASCON_LIB:-}" ] || fuzz_error "MASCON_LIB: no $shipped" || return 1
+        [ -z "${MASCON_LIB_DIR:-}" ] || fuzz_error "MASCON_LIB_DIR: no $shipped" || return 1
         (cd .. && rt staticlib mascon) || return 1
     fi
     calls=$(nm -g --defined-only "$shipped" | sed -n 's/.* T mascon_//p') && [ -n "$calls" ] ||

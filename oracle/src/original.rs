@@ -1,4 +1,4 @@
-//! The original, compiled from its own files by the build script; absent where they are not at hand.
+//! The original, compiled from its own files by the crate `copies`; absent where they are not at hand.
 //!
 //! `shim` has its functions at its own grid size, 192; `build_mascon` picks a copy by the grid size.
 
@@ -12,7 +12,7 @@ use std::time::Duration;
 pub(crate) const AT_HAND: bool = cfg!(original);
 
 #[cfg(original)]
-include!(concat!(env!("OUT_DIR"), "/originals.rs"));
+pub(crate) use copies::{build_mascon, shim, GRID_SIZES};
 
 /// The original's tree of a point file that the rule lets pass, its length in `answer`, with its counts.
 #[cfg(original)]
@@ -87,7 +87,7 @@ pub(crate) fn cast(_: &[u8], _: &[Point]) -> Option<(usize, Duration)> {
 
 #[cfg(all(test, original))]
 mod tests {
-    use super::{APPENDED, FILES, FOLDER, GRID_SIZES, PREFIX};
+    use copies::{APPENDED, COPIES, FILES, FOLDER, GRID_SIZES, PREFIX};
     use std::fs;
     use std::path::Path;
 
@@ -122,8 +122,7 @@ mod tests {
             for name in FILES {
                 let original = original(name);
                 let copy =
-                    fs::read_to_string(Path::new(env!("OUT_DIR")).join(format!("g{g}/{name}")))
-                        .unwrap();
+                    fs::read_to_string(Path::new(COPIES).join(format!("g{g}/{name}"))).unwrap();
                 let copy = match name {
                     "mod.rs" => copy.strip_suffix(APPENDED).expect("the appended line"),
                     _ => &copy,

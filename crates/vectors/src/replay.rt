@@ -1,14 +1,14 @@
 // A file of stored cases, all of one size: read one by one, held to what the library gives, counted and reported.
-// A further kind is a module of the crate stored with its size and its `is_same`, named in `case_size` and `is_same_case` below, and a line of `main`.
+// A further kind is a module of stored or stored_meshes with its size and its `is_same`, named in `case_size` and `is_same_case` below, and a line of `main`.
 ghost use Prim.Native.Nat.{_≤_};
 use libc::STDOUT_FILENO;
 use stored::built;
-use stored::crossed;
 use stored::edited;
-use stored::filled;
 use stored::narrowed;
 use stored::opened;
-use stored::sided;
+use stored_meshes::crossed;
+use stored_meshes::filled;
+use stored_meshes::sided;
 
 pub enum Kind {
     Narrow,

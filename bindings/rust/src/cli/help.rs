@@ -60,8 +60,8 @@ written beside and renamed; the journal names its model by length and hash, and 
 is refused. A run that was cut off between the two renames is finished by the next.
 
 apply stops at the first refusal, names its line and changes nothing. With --keep-going it passes over refused edits,
-saves the others and exits with 1 if any was refused. Each edit judges the whole model, about 8 ms for a million
-points: 10,000 edits of such a model take a minute or two.
+saves the others and exits with 1 if any was refused. Each edit judges the whole model, some 5 ms for a million
+points: 10,000 edits of such a model take about a minute.
 ";
 
 const BUILD: &str = "\

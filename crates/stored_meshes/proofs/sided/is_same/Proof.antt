@@ -1,10 +1,10 @@
--- `stored::sided::is_same` lends parts that its buffers have. Assumes nothing.
+-- `stored_meshes::sided::is_same` lends parts that its buffers have. Assumes nothing.
 use mathlib.Core.Path.{sym}
 use native.Mathlib.Omega.{arith}
 use lib.Seq.{length-take-le}
 use borrow.Author.Needs.{needs}
-use Rattle.stored.proofs.sided.is_same.Statement.{statement}
-use Rattle.stored.proofs.sided.is_same.Tie as tie
+use Rattle.stored_meshes.proofs.sided.is_same.Statement.{statement}
+use Rattle.stored_meshes.proofs.sided.is_same.Tie as tie
 
 returns : tie.Need-returns
 returns c = search needs

@@ -2,11 +2,11 @@
 // From byte 32 on target and density, from 64 the mesh, from 1504 and 1904 the kernels, from 2304 and 5248 the output before and after.
 ghost use Prim.Native.Nat.{_≤_};
 ghost use lib.ListN.{length};
-use crate::parts::are_same_bytes;
-use crate::parts::copy_bytes;
-use crate::parts::floats;
-use crate::parts::tree_bytes;
 use number::answer_number;
+use stored::parts::are_same_bytes;
+use stored::parts::copy_bytes;
+use stored::parts::floats;
+use stored::parts::tree_bytes;
 
 pub const SIZE: usize = 8192;
 

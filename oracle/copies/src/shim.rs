@@ -33,19 +33,19 @@ fn kernels(list: &[f64]) -> Vec<Kernel> {
 
 /// A point file's header and records as the original reads them.
 #[derive(Clone, Debug, PartialEq)]
-pub(crate) struct Points {
-    pub(crate) grid: usize,
-    pub(crate) count: usize,
-    pub(crate) constant_density: f64,
-    pub(crate) cell_volume: f64,
-    pub(crate) cauchy_scale: f64,
-    pub(crate) min: Vec3,
-    pub(crate) max: Vec3,
+pub struct Points {
+    pub grid: usize,
+    pub count: usize,
+    pub constant_density: f64,
+    pub cell_volume: f64,
+    pub cauchy_scale: f64,
+    pub min: Vec3,
+    pub max: Vec3,
     /// Coordinates x, y, z; Cauchy mass, elliptic mass.
-    pub(crate) records: Vec<([u32; 3], [f64; 2])>,
+    pub records: Vec<([u32; 3], [f64; 2])>,
 }
 
-pub(crate) fn parse_mascon_bytes(file: &[u8]) -> Result<Points, String> {
+pub fn parse_mascon_bytes(file: &[u8]) -> Result<Points, String> {
     let source = super::parse_mascon_bytes(file, "point file")?;
     Ok(Points {
         grid: source.grid,
@@ -70,7 +70,7 @@ pub(crate) fn parse_mascon_bytes(file: &[u8]) -> Result<Points, String> {
 
 /// The tree file of a point file, its node count and its order count.
 /// Panics where the original does: on a coordinate beyond the last slot.
-pub(crate) fn build_mascon_tree(file: &[u8]) -> Result<(Vec<u8>, usize, usize), String> {
+pub fn build_mascon_tree(file: &[u8]) -> Result<(Vec<u8>, usize, usize), String> {
     Ok(super::build_mascon_tree(&super::parse_mascon_bytes(
         file,
         "point file",
@@ -78,7 +78,7 @@ pub(crate) fn build_mascon_tree(file: &[u8]) -> Result<(Vec<u8>, usize, usize), 
 }
 
 /// The point file of a mesh, or "mascon capacity exceeded".
-pub(crate) fn build_mascon(
+pub fn build_mascon(
     triangle_list: &[f64],
     cauchy_kernels: &[f64],
     elliptic_kernels: &[f64],
@@ -95,7 +95,7 @@ pub(crate) fn build_mascon(
 }
 
 /// Whether each point lies inside the mesh, by one accelerator for all points.
-pub(crate) fn inside(triangle_list: &[f64], points: &[Vec3]) -> Vec<bool> {
+pub fn inside(triangle_list: &[f64], points: &[Vec3]) -> Vec<bool> {
     let triangles = triangles(triangle_list);
     let mut accelerator = super::InsideAccelerator::new(&triangles);
     points
@@ -105,12 +105,12 @@ pub(crate) fn inside(triangle_list: &[f64], points: &[Vec3]) -> Vec<bool> {
 }
 
 /// The distance of a crossing, or -1.
-pub(crate) fn ray_triangle_t(origin: Vec3, direction: Vec3, corners: &[f64; 9]) -> f64 {
+pub fn ray_triangle_t(origin: Vec3, direction: Vec3, corners: &[f64; 9]) -> f64 {
     super::ray_triangle_t(origin, direction, &triangle(corners))
 }
 
 /// Casts the ray along +X from each point at all triangles; the crossings counted, and how long it took once the mesh stood.
-pub(crate) fn cast(triangle_list: &[f64], points: &[Vec3]) -> (usize, std::time::Duration) {
+pub fn cast(triangle_list: &[f64], points: &[Vec3]) -> (usize, std::time::Duration) {
     let triangles = triangles(triangle_list);
     let started = std::time::Instant::now();
     let crossed = |point: Vec3| {
@@ -123,6 +123,6 @@ pub(crate) fn cast(triangle_list: &[f64], points: &[Vec3]) -> (usize, std::time:
     (crossings, started.elapsed())
 }
 
-pub(crate) fn density_at(kernel_list: &[f64], point: Vec3) -> f64 {
+pub fn density_at(kernel_list: &[f64], point: Vec3) -> f64 {
     super::density_at(&kernels(kernel_list), point)
 }

@@ -1,7 +1,7 @@
 // A case of inside.bin. Words: length of the mesh, floats of scratch, the answer. From byte 16 on the point, from 64 the mesh.
-use crate::parts::floats;
 use model::vec3_at;
 use number::side_number;
+use stored::parts::floats;
 
 pub const SIZE: usize = 2048;
 
