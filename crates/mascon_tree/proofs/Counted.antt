@@ -1,18 +1,18 @@
 -- How many nodes and points a box has, by its halves; and that the numbers fit. Assumes nothing.
-use Prim.Native.Nat.{ℕ, _+_, _*_, _≤_, _<_}
+use Prim.Native.Nat.{ℕ, _+_, _≤_}
 use mathlib.Core.Path.{_≡_, sym, ap, _∙_}
 use mathlib.Core.List.{List}
 use native.Mathlib.Nat.{le-trans}
 use native.Mathlib.Omega.{arith}
 use lib.ListN.{length, length-append}
-use Rattle.rym1.specs.File.{grid, cube}
+use Rattle.rym1.specs.File.{grid}
 use Rattle.rym1.specs.Cells.{Slot, look}
 use Rattle.rym1.proofs.Accepted.{accepted}
 use Rattle.rym1.proofs.Cells.{cube-few}
 use Rattle.rtm1.specs.declared.Cells.{Cells}
 use Rattle.rtm1.specs.declared.Sums.{Sums}
 use Rattle.rtm1.specs.declared.Kind.the-variants.{Empty, Leaf, Split}
-use Rattle.rtm1.specs.Boxes.{Within, whole, cells, lower, upper, widest}
+use Rattle.rtm1.specs.Boxes.{Within, whole, lower, upper, widest}
 use Rattle.rtm1.specs.Visit.{visit}
 use Rattle.rtm1.specs.Tree.{Tree, leaf, split, kindAt, sumsOf, indices, treeOf, nodeCount, order}
 use Rattle.rtm1.specs.Build.{fileTree}
@@ -20,7 +20,7 @@ use Rattle.rtm1.proofs.Lists.{perm-length}
 use Rattle.rtm1.proofs.Boxes.{whole-within, cells-few}
 use Rattle.rtm1.proofs.Visit.{visit-halves, visit-few}
 use Rattle.rtm1.proofs.Growth.{tree-empty, tree-leaf, tree-split}
-use Rattle.rtm1.proofs.Order.{order-length, nodes-few}
+use Rattle.rtm1.proofs.Order.{order-length, nodes-at-most}
 use Rattle.sums.specs.Ready.{Ready}
 use Rattle.sums.proofs.Slots.{grid-few}
 
@@ -42,15 +42,8 @@ module _ (look : ℕ → Slot) (g : ℕ) (b : Cells) where
   leaf-is x ex e = rw ex (tree-leaf look g b e)
 
   module _ (w : Within g b) where
-    pub nodes-fit : g ≤ 256 → nodeCount (treeOf look g b) < 33554432
-    nodes-fit h =
-        let n = nodes-few look g b w in
-        let v = cells-few g b w in
-        let m = cube-few g h in
-        doubled (nodeCount (treeOf look g b)) (cells b) (cube g) n v m
-      where
-        doubled : (n v m : ℕ) → n < 2 * v → v ≤ m → m ≤ 16777216 → n < 33554432
-        doubled n v m a b c = omega arith
+    pub nodes-fit : g ≤ 256 → nodeCount (treeOf look g b) ≤ 16777216
+    nodes-fit h = le-trans (nodes-at-most look g b w) (le-trans (cells-few g b w) (cube-few g h))
 
     pub points-fit : g ≤ 256 → length (visit look g b) ≤ 16777216
     points-fit h = le-trans (visit-few look g b) (le-trans (cells-few g b w) (cube-few g h))
@@ -80,7 +73,7 @@ pub record Root (f : List ℕ) (g : ℕ) (b : Cells) (n k : ℕ) : Type 0 where
   pub is-tree : treeOf (look f) g b ≡ fileTree f
   pub nodes : n ≡ nodeCount (fileTree f)
   pub ordered : k ≡ length (order (fileTree f))
-  pub few : n ≤ 33554432
+  pub few : n ≤ 16777216
   pub short : k ≤ 16777216
 
 pub root : (words f : List ℕ) (g : ℕ) (b : Cells) (n k : ℕ) → Ready words f g → b ≡ whole g

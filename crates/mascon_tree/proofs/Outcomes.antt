@@ -60,7 +60,7 @@ module _ (f out : List ℕ) (ok : fileCause f ≡ 0) (n k : ℕ) (en : n ≡ nod
 
   module _ (room : 64 + 80 * n + 4 * k ≤ length out) where
     -- the room that the recursion asks for at the root, once the header is written
-    pub root-room : n ≤ 33554432 → k ≤ 16777216 → (out₁ : List ℕ) → length out₁ ≡ length out → Space out₁ (64 + 80 * n) 0 0 (fileTree f)
+    pub root-room : n ≤ 16777216 → k ≤ 16777216 → (out₁ : List ℕ) → length out₁ ≡ length out → Space out₁ (64 + 80 * n) 0 0 (fileTree f)
     root-room hn hk out₁ same =
         record { below = omega (arith, en); inside = omega (arith, ek, same); few = omega (arith, en); short = omega (arith, ek) }
 

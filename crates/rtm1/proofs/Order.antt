@@ -1,22 +1,28 @@
 -- Laws of the order words, the number of nodes, and which trees have points. Assumes nothing.
-use Prim.Native.Nat.{ℕ, suc, _+_, _*_, _<_, _≤_}
-use mathlib.Core.Path.{_≡_, refl, _∙_}
+use Prim.Native.Nat.{ℕ, suc, _+_, _<_, _≤_}
+use mathlib.Core.Path.{_≡_, refl, sym, ap₂, _∙_}
 use mathlib.Core.Bool.{Bool, true, false, not, _||_}
 use mathlib.Core.List.{List, [], _∷_, List·Permᴰ, List·Permᴰ·nil, List·Permᴰ·trans, Permᴰ·refl}
 use native.Mathlib.Omega.{arith}
 use borrow.Author.Tests.{eqb-true}
 use lib.Dec.{leb, eqb}
-use lib.ListN.{length, length-map}
+use lib.ListN.{length, length-map, length-append}
 use Rattle.rym1.specs.Cells.{Slot}
 use Rattle.rtm1.specs.declared.Cells.{Cells}
 use Rattle.rtm1.specs.declared.Kind.the-variants.{Empty}
-use Rattle.rtm1.specs.Boxes.{Within, cells, single, widest}
+use Rattle.rtm1.specs.Boxes.{Within, cells, single, widest, lower, upper}
 use Rattle.rtm1.specs.Visit.{Placed, visit, nothing, total}
-use Rattle.rtm1.specs.Tree.{kindBy, kindOf, kindAt, sumsOf, indices, grow, fuel, treeOf, nodeCount, order, occupied}
+use Rattle.rtm1.specs.Tree.{Tree, empty, leaf, split, kindBy, kindOf, kindAt, sumsOf, indices, grow, fuel, treeOf, nodeCount, order, occupied}
 use Rattle.rtm1.proofs.Lists.{perm-length, perm-append}
-use Rattle.rtm1.proofs.Boxes.{cells-pos}
-use Rattle.rtm1.proofs.Visit.{indices-halves, visit-few}
+use Rattle.rtm1.proofs.Boxes.{Halves, cells-pos, upper-small, lower-small, split-many, split-wide}
+use Rattle.rtm1.proofs.Visit.{visit-halves, indices-halves, visit-few, total-count}
 use Rattle.rtm1.proofs.Growth.{by-boxes}
+
+-- each node's count is that of the order words below it
+unfoldable pub Counted : Tree → Type 0
+Counted (empty b) = Unit {0}
+Counted (leaf b s is) = s .count ≡ length is
+Counted (split b s l r) = (s .count ≡ length (order l) + length (order r)) × Counted l × Counted r
 
 -- ---- a box of kind Empty has no points
 
@@ -65,15 +71,49 @@ module _ (look : ℕ → Slot) (g : ℕ) where
 
   -- ---- nodes
 
-  pub nodes-few : (b : Cells) → Within g b → nodeCount (treeOf look g b) < 2 * cells b
-  unfolding nodeCount
-  nodes-few = by-boxes look g (λ b t. nodeCount t < 2 * cells b)
-      (λ b w e. twice (cells b) (cells-pos b (w .proper)))
-      (λ b w e. twice (cells b) (cells-pos b (w .proper)))
-      (λ b w e two below above. both _ _ _ _ _ (two .sum) below above)
-    where
-      twice : (v : ℕ) → 0 < v → 1 < 2 * v
-      twice v h = omega arith
+  -- at most one node to a cell, and fewer where there are two cells or more
+  Few : ℕ → ℕ → Type 0
+  Few n v = (n ≤ v) × (2 ≤ v → n < v)
 
-      both : (l u v n m : ℕ) → l + u ≡ v → n < 2 * l → m < 2 * u → 1 + n + m < 2 * v
-      both l u v n m e hn hm = omega arith
+  few : (b : Cells) → Within g b → Few (nodeCount (treeOf look g b)) (cells b)
+  unfolding nodeCount Few
+  few = by-boxes look g (λ b t. Few (nodeCount t) (cells b))
+      (λ b w e. one (cells b) (cells-pos b (w .proper)))
+      (λ b w e. one (cells b) (cells-pos b (w .proper)))
+      (λ b w e two below above.
+      both _ _ _ _ _ _ (two .sum) (split-many (length (visit look g b)) b e) (visit-few look g b)
+      (upper-small (widest b) b (w .proper) (split-wide (length (visit look g b)) b e)) (lower-small (widest b) b (w .proper)) below above)
+    where
+      one : (v : ℕ) → 0 < v → Few 1 v
+      one v h = (omega arith, λ k. omega arith)
+
+      both : (l u v p n m : ℕ) → l + u ≡ v → 8 < p → p ≤ v → u ≤ l + l → l ≤ u → Few n l → Few m u → Few (1 + n + m) v
+      both l u v p n m e h₁ h₂ h₃ h₄ hn hm =
+          let nl : n < l = hn .1 (omega arith) in
+          let mu : m < u = hm .1 (omega arith) in
+          (omega arith, λ k. omega arith)
+
+  pub nodes-at-most : (b : Cells) → Within g b → nodeCount (treeOf look g b) ≤ cells b
+  unfolding Few
+  nodes-at-most b w = few b w .0
+
+  -- ---- counts: a leaf's is that of its words, a split's that of both halves' words
+
+  sums-count : (b : Cells) → sumsOf look g b .count ≡ length (visit look g b)
+  sums-count b = total-count nothing (visit look g b) ∙ omega arith
+
+  halves-add : (b : Cells) → Within g b → Halves g b
+      → length (visit look g b) ≡ length (order (treeOf look g (lower (widest b) b))) + length (order (treeOf look g (upper (widest b) b)))
+  halves-add b w two =
+      let l = visit look g (lower (widest b) b) in
+      let u = visit look g (upper (widest b) b) in
+      sym (perm-length (visit-halves look g b (w .proper) (widest b)))
+      ∙ length-append l u
+      ∙ ap₂ (λ (m n : ℕ). m + n) (sym (order-length (lower (widest b) b) (two .low .within))) (sym (order-length (upper (widest b) b) (two .high .within)))
+
+  pub counted : (b : Cells) → Within g b → Counted (treeOf look g b)
+  unfolding Counted
+  counted = by-boxes look g (λ b t. Counted t)
+      (λ b w e. tt)
+      (λ b w e. sums-count b ∙ sym (length-map (visit look g b) (λ (p : Placed). p .index)))
+      (λ b w e two below above. (sums-count b ∙ halves-add b w two, below, above))

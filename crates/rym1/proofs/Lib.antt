@@ -9,3 +9,4 @@ pub mod Journal
 pub mod Models
 pub mod Changes
 pub mod Entries
+pub mod Kept

@@ -1,36 +1,46 @@
 -- What a reader has to believe, for every lookup, every grid g, and every box b of at least one cell within the grid: `Within g b`.
 -- To believe it, read the definitions (rtm1/specs), the words of specs/Said, and the signatures here. Assumes nothing.
 use Prim.Native.Nat.{ℕ, _+_, _*_, _/_, _%_, _<_, _≤_}
-use mathlib.Core.Path.{_≡_, _∙_}
+use mathlib.Core.Path.{_≡_, refl, sym, ap, _∙_, subst}
+use mathlib.Core.Bool.{true}
+use mathlib.Core.Option.{some}
 use mathlib.Core.Logic.{_↔_}
 use mathlib.Core.List.{List, _++_}
+use native.Mathlib.Nat.{le-trans}
 use native.Mathlib.Omega.{arith}
 use lib.ListN.{length, take, drop}
 use Rattle.rym1.specs.File.{grid, count, pointAt, cell, cellOf, cube, fileCause}
 use Rattle.rym1.specs.Cells.{Masses, Slot, held, massesOf, look}
+use Rattle.rym1.proofs.Bytes.{AllBytes, word-lt}
 use Rattle.rym1.proofs.Accepted.{Inside, accepted}
-use Rattle.rym1.proofs.Cells.{cell-low}
+use Rattle.rym1.proofs.Cells.{cell-low, cube-few}
 use Rattle.rtm1.specs.declared.Cells.{Cells}
 use Rattle.rtm1.specs.declared.Axis.{Axis}
 use Rattle.rtm1.specs.declared.Kind.the-variants.{Split}
 use Rattle.rtm1.specs.declared.Sums.{Sums}
 use Rattle.rtm1.specs.Boxes.{Within, whole, cells, widest, lower, upper}
 use Rattle.rtm1.specs.Visit.{Placed, visit}
-use Rattle.rtm1.specs.Tree.{Tree, leaf, kindAt, indices, grow, fuel, treeOf, tree, nodeCount, order}
-use Rattle.rtm1.specs.Build.{treeBytes, treeLength, fileTree}
-use Rattle.rtm1.proofs.Boxes.{Halves, halves, whole-within}
+use Rattle.rtm1.specs.Tree.{Tree, leaf, kindAt, indices, grow, fuel, treeOf, tree, nodeCount, order, occupied}
+use Rattle.rtm1.specs.Node.{frameOf}
+use Rattle.rtm1.specs.Build.{treeBytes, treeLength, fileTree, build}
+use Rattle.rtm1.proofs.Boxes.{Halves, halves, whole-within, cells-few}
 use Rattle.rtm1.proofs.Visit.{visit-halves}
 use Rattle.rtm1.proofs.Growth as growth
 use Rattle.rtm1.proofs.Growth.{byKind, fuel-enough, tree-same}
 use Rattle.rtm1.proofs.Order as words
-use Rattle.rtm1.proofs.Order.{order-permutes, nodes-few}
+use Rattle.rtm1.proofs.Order.{order-permutes, nodes-at-most, counted}
 use Rattle.rtm1.proofs.Bytes.{length-tree}
-use Rattle.tree_laws.specs.Said.{_∈_, _~_, times, In, Part, OneOf, Found, Holds, Somewhere, Distinct, Turn, Leads, ahead, LeafOf, Stands}
+use Rattle.rtm1.proofs.Measured.{fit}
+use Rattle.rtm1.proofs.Read as reading
+use Rattle.rtm1.proofs.Build.{build-out}
+use Rattle.rtm1.specs.Read.{Turn, nodesIn, orderWords, leafWords, walk, Reads, Measures}
+use Rattle.tree_laws.specs.Said.{_∈_, _~_, times, In, Part, OneOf, Found, Holds, Somewhere, Distinct, Leads, place, ahead, LeafOf, Stands, OneLeaf}
 use Rattle.tree_laws.proofs.Lists.{perm-times}
 use Rattle.tree_laws.proofs.Boxes.{in-halves}
 use Rattle.tree_laws.proofs.Visit.{visit-are, in-one-half, visit-once, index-from}
 use Rattle.tree_laws.proofs.Leaves.{leads-one, node-is, leaf-is, stands}
 use Rattle.tree_laws.proofs.Order.{order-holds, words-at}
+use Rattle.tree_laws.proofs.Read.{reads-node, measures-node, walk-in, walk-out, leaf-read}
 use Rattle.tree_laws.proofs.Cells.{same-cell, numbered, number-in, file-named, file-distinct, file-low, file-place}
 
 module _ (look : ℕ → Slot) (g : ℕ) (b : Cells) (ok : Within g b) where
@@ -100,8 +110,9 @@ module _ (look : ℕ → Slot) (g : ℕ) (b : Cells) (ok : Within g b) where
   pub order-has : (i : ℕ) → (i ∈ order (treeOf look g b)) ↔ Somewhere look g b i
   order-has = order-holds look g b ok
 
-  pub node-count : nodeCount (treeOf look g b) < 2 * cells b
-  node-count = nodes-few look g b ok
+  -- at most one node to a cell
+  pub node-count : nodeCount (treeOf look g b) ≤ cells b
+  node-count = nodes-at-most look g b ok
 
   -- ---- 5. two lookups
 
@@ -213,3 +224,110 @@ module _ (f : List ℕ) (ok : fileCause f ≡ 0) where
   file-index-in-one-leaf c i h =
       let (inside, holds) = file-place f ok c i h in
       index-in-one-leaf (look f) (grid f) (whole (grid f)) root (file-distinct f) _ _ _ i inside holds
+
+-- ---- 10. tree files: what is read off the bytes (rtm1: Read) of a tree, with anything behind them, is the tree
+
+-- h: a point file, of which the header alone goes into the bytes; no index is too large for an order word
+module _ (h rest : List ℕ) (look : ℕ → Slot) (g : ℕ) (pos : 0 < g) (few : g ≤ 256) (low : (c i : ℕ) → c < cube g → Holds look c i → i < 4294967296) where
+  abbrev treeFile : List ℕ
+  treeFile = treeBytes h (tree look g) ++ rest
+
+  whole-grid : Within g (whole g)
+  whole-grid = root-within g pos
+
+  -- so that places are whole numbers that binary32 has
+  pub node-count-few : nodeCount (tree look g) ≤ cube g
+  node-count-few = le-trans (node-count look g (whole g) whole-grid) (cells-few g (whole g) whole-grid)
+
+  words-few : length (order (tree look g)) ≤ cube g
+  words-few = le-trans (order-few look g (whole g) whole-grid) (cells-few g (whole g) whole-grid)
+
+  words-low : (i : ℕ) → i ∈ order (tree look g) → i < 4294967296
+  words-low i m =
+      let (x, y, z, inside, holds) = order-has look g (whole g) whole-grid i .0 m in
+      low (cell g x y z) i (cell-low g x y z (omega arith)) holds
+
+  pub nodes-read : nodesIn treeFile ≡ nodeCount (tree look g)
+  nodes-read = reading.nodes-read h (tree look g) rest (counted look g (whole g) whole-grid) (le-trans node-count-few (cube-few g few)) (le-trans words-few (cube-few g few)) words-low
+
+  pub order-read : orderWords treeFile ≡ order (tree look g)
+  order-read = reading.order-read h (tree look g) rest (counted look g (whole g) whole-grid) (le-trans node-count-few (cube-few g few)) (le-trans words-few (cube-few g few)) words-low
+
+  tree-read : Reads treeFile (tree look g) 0 0
+  tree-read = reading.tree-read h (tree look g) rest (counted look g (whole g) whole-grid) (le-trans node-count-few (cube-few g few)) (le-trans words-few (cube-few g few)) words-low
+
+  -- each node is read at its preorder place: a split's links lead to its children's places, and are none exactly to a child without points; a leaf's
+  -- start and count name its order words
+  pub node-read : (way : List Turn) (m : Tree) → Leads (tree look g) way m → Reads treeFile m (place (tree look g) way) (ahead (tree look g) way)
+  node-read way m l =
+      let n : 0 + place (tree look g) way ≡ place (tree look g) way = omega arith in
+      let o : 0 + ahead (tree look g) way ≡ ahead (tree look g) way = omega arith in
+      subst (λ (k : ℕ). Reads treeFile m k (ahead (tree look g) way)) n
+      (subst (λ (k : ℕ). Reads treeFile m (0 + place (tree look g) way) k) o (reads-node treeFile (tree look g) way m 0 0 tree-read l))
+
+  -- and its floats are those of its box and sums, as they are written
+  pub node-floats : (way : List Turn) (m : Tree) → Leads (tree look g) way m → Measures treeFile (frameOf h) m (place (tree look g) way)
+  node-floats way m l =
+      let n : 0 + place (tree look g) way ≡ place (tree look g) way = omega arith in
+      let all = reading.floats-read h (tree look g) rest (counted look g (whole g) whole-grid) (le-trans node-count-few (cube-few g few)) (le-trans words-few (cube-few g few)) words-low (fit look g (whole g) whole-grid) in
+      subst (λ (k : ℕ). Measures treeFile (frameOf h) m k) n (measures-node treeFile (frameOf h) (tree look g) way m 0 all l)
+
+  -- the walk by links reaches the nodes that have points, each by the way down the tree, and no other place
+  pub walk-reaches : (way : List Turn) (m : Tree) → Leads (tree look g) way m → occupied m ≡ true → walk treeFile way ≡ some (place (tree look g) way)
+  unfolding walk
+  walk-reaches way m l k =
+      let n : 0 + place (tree look g) way ≡ place (tree look g) way = omega arith in
+      walk-in treeFile (tree look g) way m 0 0 tree-read l k ∙ ap some n
+
+  pub walk-leads : (way : List Turn) (k : ℕ) → walk treeFile way ≡ some k → (m : Tree) × Leads (tree look g) way m × (k ≡ place (tree look g) way)
+  unfolding walk
+  walk-leads way k e =
+      let (m, l, at) = walk-out treeFile (tree look g) way 0 0 k tree-read e in
+      (m, l, omega arith)
+
+  -- an occupied cell's index stands in exactly one leaf of the file
+  pub read-leaf : Distinct look g → (x y z i : ℕ) → x < g → y < g → z < g → Holds look (cell g x y z) i → OneLeaf treeFile i
+  unfolding Reads
+  read-leaf distinct x y z i hx hy hz holds =
+      let t = tree look g in
+      let inside : In (whole g) x y z = omega arith in
+      let st = leaf-theorem look g (whole g) whole-grid x y z i inside holds in
+      let d = node-read (st .way) (leaf (st .box) (st .sums) (st .words)) (st .leads) in
+      record {
+        way = st .way;
+        at = place t (st .way);
+        reached = walk-reaches (st .way) (leaf (st .box) (st .sums) (st .words)) (st .leads) (unfold occupied in refl);
+        no-links = (d .0 .left-is, d .0 .right-is);
+        holds = subst (λ (l : List ℕ). i ∈ l) (sym (d .1)) (st .holds);
+        only = λ way at e m. one way at e m;
+        once = ap (times i) order-read ∙ index-once look g (whole g) whole-grid distinct x y z i inside holds;
+      }
+    where
+      one : (way : List Turn) (at : ℕ) → walk treeFile way ≡ some at → i ∈ leafWords treeFile at
+          → way ≡ leaf-theorem look g (whole g) whole-grid x y z i (omega arith) holds .way
+      one way at e m =
+          let (n, l, p) = walk-leads way at e in
+          let (c, s, is, q, k) = leaf-read treeFile n (place (tree look g) way) (ahead (tree look g) way) i (node-read way n l) (subst (λ (a : ℕ). i ∈ leafWords treeFile a) p m) in
+          index-in-one-leaf look g (whole g) whole-grid distinct x y z i (omega arith) holds way c s is (subst (λ (u : Tree). Leads (tree look g) way u) q l) k
+
+-- ---- 11. what build writes
+
+-- of an accepted point file, given as bytes, where build answers a length: each occupied cell's index stands in exactly one leaf of what build wrote,
+-- and the record at that index names the cell and has its masses
+module _ (f : List ℕ) (ok : fileCause f ≡ 0) (bytes : AllBytes f) (words : ℕ) (out : List ℕ) (done : 64 ≤ build f words out .answer) where
+  pub written-leaf : (c i : ℕ) (m : Masses) → look f c ≡ held i m
+      → OneLeaf (build f words out .left .out) i × (cellOf (grid f) (pointAt f (64 + 16 * i)) ≡ c) × (massesOf (pointAt f (64 + 16 * i)) ≡ m)
+  unfolding count
+  written-leaf c i m h =
+      let g = grid f in
+      let a = accepted f ok in
+      let (inside, holds) = file-place f ok c i (m, h) in
+      let low : (c i : ℕ) → c < cube g → Holds (look f) c i → i < 4294967296 =
+      λ c i k (m, e). omega (arith, file-record f c i m e .0, word-lt 4 f 12 bytes) in
+      let t = fileTree f in (
+        subst (λ (s : List ℕ). OneLeaf s i) (sym (build-out f words out ok done))
+            (read-leaf f (drop (length (treeBytes f t)) out) (look f) g (a .grid-pos) (a .grid-few) low (file-distinct f)
+            (c % g) (c / g % g) (c / g / g) i (inside .to-x) (inside .to-y) (inside .to-z) holds),
+        file-record f c i m h .1,
+        file-record f c i m h .2,
+      )

@@ -1,5 +1,5 @@
 -- The proof of the cycle of calls {count_nodes}. The measure is the number of cells, the product of the box's widths. Assumes nothing.
-use Prim.Native.Nat.{ℕ, _+_, _<_}
+use Prim.Native.Nat.{ℕ, _+_, _<_, _≤_}
 use mathlib.Core.Path.{_≡_, sym, ap, ap₂, _∙_, subst}
 use native.Mathlib.Omega.{arith}
 use lib.ListN.{length}
@@ -122,7 +122,7 @@ module _ (t : ℕ) where
       ap₂ (λ (l r : ℕ). 1 + l + r) (c .before .count-nodes .ensures) (c .count-nodes2 .ensures)
       ∙ sym (nodes-count (look s) (g s) (b s) (s .pre .1 .1 .0) (h .result .low) (h .result .high) (h .ensures .0) (h .ensures .1) (kind-is (told .before .before) ∙ told .enum-told3 .given .1))
 
-  fits : (c : lts.After-count-nodes2 (calls t) (given t) count-nodes.Post) → nodeCount (treeOf (look (c .before .before .before .before .before .before .before .before .before .before .before)) (g (c .before .before .before .before .before .before .before .before .before .before .before)) (b (c .before .before .before .before .before .before .before .before .before .before .before))) < 33554432
+  fits : (c : lts.After-count-nodes2 (calls t) (given t) count-nodes.Post) → nodeCount (treeOf (look (c .before .before .before .before .before .before .before .before .before .before .before)) (g (c .before .before .before .before .before .before .before .before .before .before .before)) (b (c .before .before .before .before .before .before .before .before .before .before .before))) ≤ 16777216
   fits c =
       let s = c .before .before .before .before .before .before .before .before .before .before .before in
       nodes-fit (look s) (g s) (b s) (s .pre .1 .1 .0) (grid-few (s .pre .1 .0))
