@@ -1,4 +1,13 @@
-/* Wachsanker's exported calls (libmascon.a). Slices pass as pointer and element count. */
+/* Wachsanker's exported calls (libmascon.a). Slices pass as pointer and element count.
+
+   Of every call:
+   - A buffer that is written overlaps no other; those that are only read may be the same. A pointer may be NULL where its length is 0.
+   - The processor's floating-point mode is that of program start (x86-64: MXCSR 0x1f80, whatever its six flags): round to nearest, no
+     flush-to-zero, no denormals-are-zero, exceptions masked. A program that gcc links with -ffast-math starts in another one, 0x9fc0.
+     In another mode nothing that is said here is promised: answers and written numbers differ, and an exception that is not masked
+     traps. The x87 mode plays no part.
+   - It keeps nothing for the next: threads may call at once on different buffers, and share those that are only read.
+   - It takes less than 32 KiB of stack. */
 #ifndef MASCON_H
 #define MASCON_H
 
@@ -87,7 +96,7 @@ typedef struct {
 /* Builds the tree of a point file, in working form or not, into out: 64 bytes of header, 80 a node, 4 an occupied cell.
    Answers the length written, 64 + 80 * nodes + 4 * order, or a number below 64, the cause of a refusal:
    1 under 64 bytes, 2 word 0 or version, 3 grid, 4 records missing, 5 a header float, 6 a coordinate, 7 a mass,
-   8 scratch under grid^3 words, 9 out too short. 64 + 80 * (2 * grid^3 - 1) + 4 * grid^3 bytes are always enough.
+   8 scratch under grid^3 words, 9 out too short. 64 + 84 * grid^3 bytes are always enough.
    A refusal changes no byte of out, and none of scratch where it is 1 to 8. out past the length is as it was; file is only read;
    scratch is free otherwise. The three do not overlap. */
 MasconBuilt mascon_build(const uint8_t *file, size_t file_length, uint32_t *scratch, size_t scratch_length,

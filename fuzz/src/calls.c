@@ -74,8 +74,8 @@ static uint64_t open_checked(void) {
     const char *before = under_test;
     under_test = "open";
     uint64_t right = rule_open(file.at, file.length, scratch.length / 4, out.length, journal.length / 4, want, keys);
-    uint64_t answer = mascon_open(file.at, file.length, (uint32_t *)scratch.at, scratch.length / 4, out.at, out.length,
-                                  (uint32_t *)journal.at, journal.length / 4);
+    uint64_t answer = mascon_open(given(&file, file.length), file.length, given(&scratch, scratch.length), scratch.length / 4,
+                                  given(&out, out.length), out.length, given(&journal, journal.length), journal.length / 4);
     count(CALL_open, answer >= 64);
     check_only_read(&file);
     check_canaries(&scratch);
@@ -103,7 +103,8 @@ static uint64_t build_checked(void) {
     under_test = "build";
     uint64_t nodes, ordered;
     uint64_t right = rule_build(file.at, file.length, scratch.length / 4, out.length, want, lookup, order, &nodes, &ordered);
-    MasconBuilt built = mascon_build(file.at, file.length, (uint32_t *)scratch.at, scratch.length / 4, out.at, out.length);
+    MasconBuilt built = mascon_build(given(&file, file.length), file.length, given(&scratch, scratch.length), scratch.length / 4,
+                                     given(&out, out.length), out.length);
     count(CALL_build, built.answer >= 64);
     check_only_read(&file);
     check_canaries(&scratch);
@@ -188,7 +189,7 @@ void case_inside(const uint8_t *bytes, size_t length) {
             point[a] = class >> a & 1 && list_length >= 72 ? getd(list + 24 * (u8(&in) % (list_length / 24)) + 8 * a) : number(&in, &last);
         keep(&floats);
         uint64_t right = rule_inside(&mesh, list, list_length, point, lent);
-        uint64_t answer = mascon_inside(triangles.at, triangles.length, point[0], point[1], point[2], (double *)floats.at, lent);
+        uint64_t answer = mascon_inside(given(&triangles, triangles.length), triangles.length, point[0], point[1], point[2], given(&floats, lent), lent);
         count(CALL_inside, answer <= 1);
         check_only_read(&triangles);
         check_canaries(&floats);
@@ -217,8 +218,9 @@ static void lend_lists(In *in, uint8_t flags, Body *body, const Lent *lists[2]) 
 /* Fills into `out`, with `floats` as lent, and checks all of it. */
 static uint64_t fill_checked(const Body *body, const Lent *lists[2]) {
     uint64_t right = rule_fill(&mesh, body, floats.length / 8, out.length, want);
-    uint64_t answer = mascon_fill(body->g, triangles.at, triangles.length, lists[0]->at, lists[0]->length, lists[1]->at, lists[1]->length,
-                                  body->target, body->density, (double *)floats.at, floats.length / 8, out.at, out.length);
+    uint64_t answer = mascon_fill(body->g, given(&triangles, triangles.length), triangles.length, given(lists[0], lists[0]->length), lists[0]->length,
+                                  given(lists[1], lists[1]->length), lists[1]->length, body->target, body->density,
+                                  given(&floats, floats.length), floats.length / 8, given(&out, out.length), out.length);
     count(CALL_fill, answer >= 64);
     check_only_read(&triangles);
     check_only_read(lists[0]);
@@ -308,10 +310,12 @@ static uint64_t edit_call(const Edit *edit, size_t file_length, size_t words) {
     float masses[2];
     memcpy(&masses[0], &edit->cauchy, 4);
     memcpy(&masses[1], &edit->elliptic, 4);
+    uint8_t *bytes = given(&file, file_length);
+    uint32_t *entries = given(&journal, words);
     switch (edit->kind) {
-    case PUT: return mascon_put(file.at, file_length, (uint32_t *)journal.at, words, edit->x, edit->y, edit->z, masses[0], masses[1]);
-    case REMOVE: return mascon_remove(file.at, file_length, (uint32_t *)journal.at, words, edit->x, edit->y, edit->z);
-    default: return mascon_undo(file.at, file_length, (uint32_t *)journal.at, words);
+    case PUT: return mascon_put(bytes, file_length, entries, words, edit->x, edit->y, edit->z, masses[0], masses[1]);
+    case REMOVE: return mascon_remove(bytes, file_length, entries, words, edit->x, edit->y, edit->z);
+    default: return mascon_undo(bytes, file_length, entries, words);
     }
 }
 

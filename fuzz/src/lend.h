@@ -83,6 +83,9 @@ static void lend(Lent *lent, size_t length, bool at_end, uint8_t seed) {
     }
 }
 
+// What is passed for it with so many of its bytes, words or floats: for none of them, where it does not stand against the page behind, NULL.
+static void *given(const Lent *lent, size_t length) { return length || lent->at_end ? lent->at : NULL; }
+
 // Remembers what stands in it now.
 static void keep(Lent *lent) { memcpy(lent->was, lent->at, lent->length); }
 

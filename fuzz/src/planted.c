@@ -44,8 +44,8 @@ uint64_t __wrap_mascon_fill(uint32_t g, const uint8_t *triangles, size_t triangl
 uint64_t __real_mascon_open(const uint8_t *file, size_t file_length, uint32_t *scratch, size_t scratch_length, uint8_t *out, size_t out_length, uint32_t *journal, size_t journal_length);
 uint64_t __wrap_mascon_open(const uint8_t *file, size_t file_length, uint32_t *scratch, size_t scratch_length, uint8_t *out, size_t out_length, uint32_t *journal, size_t journal_length) {
     volatile uint8_t seen;
-    if (fault(7)) seen = file[file_length]; // reads past the end
-    if (fault(30)) seen = file[-1];
+    if (fault(7) && file_length) seen = file[file_length]; // reads past the end
+    if (fault(30) && file_length) seen = file[-1];
     uint64_t answer = __real_mascon_open(file, file_length, scratch, scratch_length, out, out_length, journal, journal_length);
     if (fault(8) && answer >= 64 && answer < out_length) out[answer] ^= 1;
     if (fault(9) && answer >= 64 && answer == out_length) out[answer] ^= 1;

@@ -8,7 +8,7 @@ use crate::ffi::{self, Built};
 use crate::lent::Buffers;
 use crate::open::cases::Case;
 use crate::open::{lay, scratch_word};
-use crate::original;
+use crate::original::{self, Verdict};
 use crate::points::{point_file, record, Header, Record};
 use crate::report::Report;
 use crate::rng::Rng;
@@ -60,8 +60,11 @@ impl search::Desk for Desk {
             .or_else(|| first("byte of the file lent", self.lent.file.slice(), &case.file))
             .or_else(|| self.lent.broken())
             .or_else(|| self.lent.scratched(want.answer, before))
-            .or_else(|| unlike_the_original(&case.file, want, &self.want_out))
             .map(|what| format!("answer {want}, {what}"))
+    }
+
+    fn beside_original(&self, case: &Case) -> Verdict {
+        unlike_the_original(&case.file, self.want, &self.want_out)
     }
 
     fn want(&self) -> Built {
@@ -93,20 +96,21 @@ impl Display for Built {
 }
 
 /// What differs from the original in an accepted call, or where the original's tree would have fitted in a refusal by 9.
-pub(crate) fn unlike_the_original(file: &[u8], built: Built, out: &[u8]) -> Option<String> {
+pub(crate) fn unlike_the_original(file: &[u8], built: Built, out: &[u8]) -> Verdict {
     let accepted = built.answer >= 64;
     if !accepted && built.answer != 9 {
-        return None;
+        return Verdict::default();
     }
-    let (tree, counts) = original::tree(file)?;
-    if !accepted {
-        let fits = tree.len() <= out.len();
-        return fits.then(|| format!("the original's tree has {} bytes", tree.len()));
-    }
-    if counts != built {
-        return Some(format!("the original's is {counts}"));
-    }
-    first("byte beside the original", out, &tree)
+    Verdict::by_original(original::tree(file), |(tree, counts)| {
+        if !accepted {
+            let fits = tree.len() <= out.len();
+            return fits.then(|| format!("the original's tree has {} bytes", tree.len()));
+        }
+        if counts != built {
+            return Some(format!("the original's is {counts}"));
+        }
+        first("byte beside the original", out, &tree)
+    })
 }
 
 /// The file over a cube of `g` metres with a record for each of the cell numbers, in their order.
@@ -367,7 +371,7 @@ mod tests {
         let wrong: Build = |_, _, _| Built::refused(5);
         let (seed, kind) = kind("junk not read");
         let what = compare::<Desk>(wrong, seed, kind, 300).found();
-        assert_eq!((what.cases, what.mismatches), (300, 300));
+        assert_eq!((what.cases.all(), what.mismatches), (300, 300));
         let what = what.smallest.expect("a mismatch");
         assert!(
             what.contains("g 1, 1 records, file 80, scratch 1, "),
@@ -385,16 +389,40 @@ mod tests {
     fn the_original_is_asked() {
         let file = of_cells(3, 0..9);
         let (tree, built) = rule::tree::tree(&file);
-        assert_eq!(unlike_the_original(&file, built, &tree), None);
+        let told = |built: Built, out: &[u8]| unlike_the_original(&file, built, out).wrong;
+        assert_eq!(told(built, &tree), None);
         let mut other = tree.clone();
         other[70] ^= 1;
-        let what = unlike_the_original(&file, built, &other).expect("a difference");
+        let what = told(built, &other).expect("a difference");
         assert!(what.starts_with("byte beside the original 70 is"), "{what}");
-        let what = unlike_the_original(&file, Built { nodes: 4, ..built }, &tree);
+        let what = told(Built { nodes: 4, ..built }, &tree);
         assert!(what.is_some_and(|what| what.contains("(3 nodes, order 9)")));
         let nine = Built::refused(9);
-        assert_eq!(unlike_the_original(&file, nine, &tree[..339]), None);
-        assert!(unlike_the_original(&file, nine, &tree).is_some());
-        assert_eq!(unlike_the_original(&[], Built::refused(1), &[]), None);
+        assert_eq!(told(nine, &tree[..339]), None);
+        assert!(told(nine, &tree).is_some());
+        assert_eq!(told(Built::refused(1), &[]), None);
+    }
+
+    /// Beside the original: accepted files and a refusal by 9. By the rule alone: other refusals.
+    #[test]
+    fn cases_are_counted_apart() {
+        let good = || just(of_cells(3, 0..9));
+        let with = |change: fn(&mut Case)| {
+            let mut case = good();
+            change(&mut case);
+            case
+        };
+        let cases = [
+            (good(), true),
+            (with(|case| case.out -= 1), true),
+            (with(|case| case.scratch -= 1), false),
+            (with(|case| case.file[0] ^= 1), false),
+        ];
+        for (case, asked) in cases {
+            let found = compare_fixed::<Desk>(ffi::build, [("", case, None)]).found();
+            let beside = u64::from(asked && original::AT_HAND);
+            assert_eq!(found.cases.apart(), (beside, 1 - beside));
+            assert_eq!(found.smallest, None);
+        }
     }
 }

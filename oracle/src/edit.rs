@@ -8,6 +8,7 @@ use crate::build::{of_cells, Build};
 use crate::ffi;
 use crate::lent::Lent;
 use crate::open::Open;
+use crate::original::Verdict;
 use crate::register::Register;
 use crate::report::Report;
 use crate::rule;
@@ -234,7 +235,7 @@ fn visit(search: &mut Search, desk: &mut Desk, edit: Edit, name: &str, number: u
     let size = bytes + 4 * words + 24 * wrong.as_ref().map_or(0, |(step, _)| *step);
     let sizes = format!("g {grid}, {records} records, file {bytes}, journal {words}");
     let wrong = wrong.map(|wrong| told(name, number, &sizes, &calls, wrong));
-    search.note(size, number, wrong);
+    search.note(size, number, Verdict::by_rule(wrong));
 }
 
 /// Compares the histories of a kind, the work shared out by their numbers.
@@ -248,7 +249,7 @@ fn compare(library: Library, seed: u64, kind: &Histories, cases: u64) -> Search 
         let grid = history.grid;
         let sizes = format!("g {grid}, opened {file}, file {bytes}, journal {words}");
         let wrong = wrong.map(|wrong| told(kind.name, number, &sizes, &history.calls, wrong));
-        search.note(size, number, wrong);
+        search.note(size, number, Verdict::by_rule(wrong));
     })
 }
 
@@ -812,7 +813,7 @@ mod tests {
         let wrong: Edit = |_, _, _| 5;
         let (seed, kind) = history_kind("short histories");
         let what = compare(with(wrong), seed, kind, 900).found();
-        assert_eq!((what.cases, what.mismatches), (900, 800));
+        assert_eq!((what.cases.all(), what.mismatches), (900, 800));
         let what = what.smallest.expect("a mismatch");
         assert!(what.contains(", opened 64, file "), "{what}");
         assert!(what.contains("call 1: "), "{what}");

@@ -7,7 +7,7 @@ pub(crate) mod plain;
 
 use crate::ffi;
 use crate::lent::{Floats, Lent};
-use crate::original;
+use crate::original::{self, Verdict};
 use crate::report::Report;
 use crate::rule;
 use crate::rule::fill::Body;
@@ -66,21 +66,6 @@ impl Desk {
             .or_else(|| self.out.broken("output"))
             .or_else(|| self.floats.scratched(answer, case.junk))
     }
-
-    fn unlike_the_rule(&mut self, fill: Fill, case: &Case) -> Option<String> {
-        self.lay(case, case.out_before());
-        self.want_out.clear();
-        self.want_out.extend_from_slice(self.out.slice());
-        let want = rule::fill::fill(&case.body(), case.floats as u64, &mut self.want_out);
-        self.want = want;
-        let got = self.call(fill, case);
-        if got != want {
-            return Some(format!("library answers {got}, rule {want}"));
-        }
-        first("output byte", self.out.slice(), &self.want_out)
-            .or_else(|| self.besides(case, want))
-            .map(|what| format!("answer {want}, {what}"))
-    }
 }
 
 impl search::Desk for Desk {
@@ -99,11 +84,22 @@ impl search::Desk for Desk {
     }
 
     fn differs(&mut self, fill: Fill, case: &Case) -> Option<String> {
-        self.unlike_the_rule(fill, case).or_else(|| {
-            let want = self.want;
-            unlike_the_original(&case.body(), want, &self.want_out)
-                .map(|what| format!("answer {want}, {what}"))
-        })
+        self.lay(case, case.out_before());
+        self.want_out.clear();
+        self.want_out.extend_from_slice(self.out.slice());
+        let want = rule::fill::fill(&case.body(), case.floats as u64, &mut self.want_out);
+        self.want = want;
+        let got = self.call(fill, case);
+        if got != want {
+            return Some(format!("library answers {got}, rule {want}"));
+        }
+        first("output byte", self.out.slice(), &self.want_out)
+            .or_else(|| self.besides(case, want))
+            .map(|what| format!("answer {want}, {what}"))
+    }
+
+    fn beside_original(&self, case: &Case) -> Verdict {
+        unlike_the_original(&case.body(), self.want, &self.want_out)
     }
 
     fn want(&self) -> u64 {
@@ -152,21 +148,23 @@ fn has_room(file: &[u8]) -> bool {
 }
 
 /// What differs from the original where the rule accepts; where it refuses by 18, 19 or 20, whether the original's own answer says so too.
-pub(crate) fn unlike_the_original(body: &Body, answer: u64, out: &[u8]) -> Option<String> {
+pub(crate) fn unlike_the_original(body: &Body, answer: u64, out: &[u8]) -> Verdict {
     if !matches!(answer, 18..=20 | 64..) {
-        return None;
+        return Verdict::default();
     }
-    let told = match (answer, original::filled(body)?) {
-        (18, Err(_)) | (19, Err(_)) => return None,
-        (19, Ok(file)) if !has_room(&file) => return None,
-        (20, Ok(file)) if !rule::fill::is_finite(&file) => return None,
-        (64.., Ok(file)) if file.len() as u64 == answer => {
-            return first("byte beside the original", out, &file)
-        }
-        (_, Ok(file)) => format!("writes {} bytes", file.len()),
-        (_, Err(refusal)) => format!("says {refusal:?}"),
-    };
-    Some(format!("the original {told}"))
+    Verdict::by_original(original::filled(body), |filled| {
+        let told = match (answer, filled) {
+            (18, Err(_)) | (19, Err(_)) => return None,
+            (19, Ok(file)) if !has_room(&file) => return None,
+            (20, Ok(file)) if !rule::fill::is_finite(&file) => return None,
+            (64.., Ok(file)) if file.len() as u64 == answer => {
+                return first("byte beside the original", out, &file)
+            }
+            (_, Ok(file)) => format!("writes {} bytes", file.len()),
+            (_, Err(refusal)) => format!("says {refusal:?}"),
+        };
+        Some(format!("the original {told}"))
+    })
 }
 
 pub(crate) fn check(report: &mut Report) {
@@ -178,10 +176,9 @@ mod tests {
     use super::cases::{pair_of, CAUSES};
     use super::plain::{plain_fill, Fault, FILL_FAULTS};
     use super::*;
-    #[cfg(original)]
-    use crate::meshes::cuboid;
+    use crate::meshes::{bytes, cuboid, dot};
     use crate::open::cases::Kind;
-    use crate::search::{compare, named, tally, Desk as _};
+    use crate::search::{compare, compare_fixed, named, tally, Desk as _};
     use std::collections::{BTreeMap, BTreeSet};
 
     fn kind(name: &str) -> (u64, &'static Kind<Case>) {
@@ -351,7 +348,7 @@ mod tests {
         let (seed, kind) = kind(name);
         let mut desk = Desk::new();
         let mut cases = (0..kind.cases).map(|number| kind.case(seed, number));
-        cases.any(|case| desk.unlike_the_rule(fill, &case).is_some())
+        cases.any(|case| desk.differs(fill, &case).is_some())
     }
 
     /// Made-up faults are found, and where they should be.
@@ -395,7 +392,7 @@ mod tests {
         let wrong: Fill = |_, _, _| 5;
         let (seed, kind) = kind("no inside point");
         let what = compare::<Desk>(wrong, seed, kind, 100).found();
-        assert_eq!((what.cases, what.mismatches), (100, 100));
+        assert_eq!((what.cases.all(), what.mismatches), (100, 100));
         let what = what.smallest.expect("a mismatch");
         assert!(what.contains("g 1, mesh 72, kernels "), "{what}");
         assert!(what.ends_with("library answers 5, rule 64"), "{what}");
@@ -417,7 +414,7 @@ mod tests {
         let case = Case::of(1, &cuboid([0.0; 3], [1.0; 3]));
         let mut out = vec![0; 80];
         let answer = rule::fill::fill(&case.body(), 12, &mut out);
-        let told = |answer: u64, out: &[u8]| unlike_the_original(&case.body(), answer, out);
+        let told = |answer: u64, out: &[u8]| unlike_the_original(&case.body(), answer, out).wrong;
         assert_eq!((answer, told(80, &out)), (80, None));
         out[70] ^= 1;
         let what = told(80, &out).expect("a difference");
@@ -432,8 +429,68 @@ mod tests {
             assert_eq!(told(answer, &out), None);
         }
         let over = Case::of(2, &cuboid([0.0; 3], [1.0; 3]));
-        assert_eq!(unlike_the_original(&over.body(), 18, &[]), None);
-        let what = unlike_the_original(&over.body(), 64, &[]).expect("a difference");
+        assert_eq!(unlike_the_original(&over.body(), 18, &[]).wrong, None);
+        let what = unlike_the_original(&over.body(), 64, &[]).wrong;
+        let what = what.expect("a difference");
         assert!(what.contains("capacity exceeded"), "{what}");
+    }
+
+    /// The same at g 64 and at the original's own grid size, in the last byte of a file.
+    #[cfg(original)]
+    #[test]
+    fn the_original_is_asked_at_its_own_grid() {
+        let plates = fixed::large().into_iter();
+        let plates = plates.filter(|(name, _, _)| name.ends_with("a plate"));
+        let mut grids = Vec::new();
+        for (name, case, known) in plates {
+            let (answer, mut out) = by_rule(&case);
+            assert_eq!(answer, known, "{name}");
+            let last = answer as usize - 1;
+            out[last] ^= 1;
+            let verdict = unlike_the_original(&case.body(), answer, &out);
+            assert!(verdict.is_beside());
+            let what = verdict.wrong.expect("a difference");
+            let told = format!("byte beside the original {last} is");
+            assert!(what.starts_with(&told), "{what}");
+            grids.push(case.grid);
+        }
+        assert_eq!(grids, [64, 192]);
+    }
+
+    /// Beside the original: accepted, or refused by 18 to 20, at a grid size that is compiled. By the rule alone: g 25 and 256, which
+    /// are not, and what is refused before the original would be asked.
+    #[test]
+    fn cases_are_counted_apart() {
+        let dots = [dot([0.0; 3]), dot([1.0; 3])];
+        let cube = cuboid([0.0; 3], [1.0; 3]);
+        let flat = cuboid([999_999.99; 3], [1e6; 3]);
+        let heavy = |grid: usize| Case {
+            cauchy: bytes(&[0.0, 0.0, 0.0, 0.0, 1e30]),
+            ..Case::of(grid, &fixed::corner(3e4))
+        };
+        let short = Case {
+            floats: 1,
+            ..Case::of(64, &dots)
+        };
+        let cases = [
+            (Case::of(24, &dots), 64, true),
+            (Case::of(25, &dots), 64, false),
+            (Case::of(64, &dots), 64, true),
+            (Case::of(256, &dots), 64, false),
+            (Case::of(2, &cube), 18, true),
+            (Case::of(25, &cube), 18, false),
+            (Case::of(2, &flat), 19, true),
+            (Case::of(25, &flat), 19, false),
+            (heavy(4), 20, true),
+            (heavy(25), 20, false),
+            (short, 8, false),
+            (Case::of(64, &[]), 17, false),
+        ];
+        for (number, (case, answer, asked)) in cases.into_iter().enumerate() {
+            let found = compare_fixed::<Desk>(ffi::fill, [("", case, Some(answer))]).found();
+            let beside = u64::from(asked && original::AT_HAND);
+            assert_eq!(found.cases.apart(), (beside, 1 - beside), "{number}");
+            assert_eq!(found.smallest, None);
+        }
     }
 }

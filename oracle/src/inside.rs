@@ -7,7 +7,7 @@ use crate::fill::fixed::{low_wall, walls_at};
 use crate::lent::{Floats, Lent};
 use crate::meshes::{cuboid, dot, no_candidate, past_edge, relative_tie, Mesh};
 use crate::open::cases::Kind;
-use crate::original;
+use crate::original::{self, Answered, Verdict};
 use crate::report::Report;
 use crate::rng::Rng;
 use crate::rule;
@@ -59,36 +59,31 @@ impl Desk {
     }
 
     /// Makes a call for each point of a cloud; says what differs from the original, or from the rule on a share of them.
-    fn cloud(
-        &mut self,
-        inside: Inside,
-        cloud: &Cloud,
-        mut note: impl FnMut(usize, Option<String>),
-    ) {
+    fn cloud(&mut self, inside: Inside, cloud: &Cloud, mut note: impl FnMut(usize, Verdict)) {
         self.lay(&cloud.triangles, cloud.junk);
         let mesh = rule::fill::Mesh::of(&cloud.triangles).expect("a good mesh");
         let floats = cloud.triangles.len() / TRIANGLE;
         let by_original = original::inside(&cloud.triangles, &cloud.points);
+        let mut by_original = by_original.into_iter().flat_map(Answered::each);
         for (number, &point) in cloud.points.iter().enumerate() {
             let (got, what) = self.call(inside, point, floats, cloud.junk);
-            let asked = number.is_multiple_of(SHARE) || by_original.is_none();
-            let told = [
-                by_original
-                    .as_ref()
-                    .map(|answers| ("original", answers[number])),
-                asked.then(|| ("rule", mesh.inside(point))),
-            ];
-            let differs = |(by, want): (&str, bool)| {
+            let differs = |by: &str, want: bool| {
                 let want = u64::from(want);
                 (got != want).then(|| format!("library answers {got}, {by} {want}"))
             };
-            let wrong = told.into_iter().flatten().find_map(differs);
+            let verdict =
+                Verdict::by_original(by_original.next(), |want| differs("original", want));
+            let asked = number.is_multiple_of(SHARE) || !verdict.is_beside();
             let whole = number == 0 || number == cloud.points.len() - 1;
-            let wrong = wrong.or(what).or_else(|| match whole {
-                true => self.changed(&cloud.triangles),
-                false => self.mesh.broken("mesh"),
+            let verdict = verdict.and(|| {
+                let by_rule = asked.then(|| mesh.inside(point));
+                let wrong = by_rule.and_then(|want| differs("rule", want));
+                Verdict::by_rule(wrong.or(what).or_else(|| match whole {
+                    true => self.changed(&cloud.triangles),
+                    false => self.mesh.broken("mesh"),
+                }))
             });
-            note(number, wrong);
+            note(number, verdict);
         }
     }
 }
@@ -115,8 +110,11 @@ impl search::Desk for Desk {
             return Some(format!("library answers {got}, rule {want}"));
         }
         what.or_else(|| self.changed(&case.triangles))
-            .or_else(|| unlike_the_original(case, want))
             .map(|what| format!("answer {want}, {what}"))
+    }
+
+    fn beside_original(&self, case: &Case) -> Verdict {
+        unlike_the_original(case, self.want)
     }
 
     fn want(&self) -> u64 {
@@ -141,13 +139,15 @@ pub(crate) fn called(inside: Inside, case: &Case) -> (u64, Option<String>) {
 }
 
 /// What the original says otherwise, where the rule has an answer.
-pub(crate) fn unlike_the_original(case: &Case, answer: u64) -> Option<String> {
+pub(crate) fn unlike_the_original(case: &Case, answer: u64) -> Verdict {
     if answer > 1 {
-        return None;
+        return Verdict::default();
     }
-    let told = original::inside(&case.triangles, &[case.point])?;
-    let other = told != [answer == 1];
-    other.then(|| "the original answers otherwise".into())
+    let inside = original::inside(&case.triangles, &[case.point]);
+    Verdict::by_original(inside, |told| {
+        let other = told != [answer == 1];
+        other.then(|| "the original answers otherwise".into())
+    })
 }
 
 fn described(triangles: &[u8], point: Point, floats: usize) -> String {
@@ -163,13 +163,13 @@ fn compare_clouds(inside: Inside, seed: u64, kind: &Kind<Cloud>, meshes: u64) ->
         let cloud = kind.case(seed, number);
         let floats = cloud.triangles.len() / TRIANGLE;
         let size = cloud.triangles.len() + 8 * floats;
-        desk.cloud(inside, &cloud, |point, wrong| {
+        desk.cloud(inside, &cloud, |point, verdict| {
             let number = number * POINTS as u64 + point as u64;
-            let told = wrong.map(|wrong| {
+            let told = |wrong| {
                 let what = described(&cloud.triangles, cloud.points[point], floats);
                 format!("{}, case {number}: {what}: {wrong}", kind.name)
-            });
-            search.note(size, number, told);
+            };
+            search.note(size, number, verdict.told(told));
         });
     })
 }
@@ -281,7 +281,7 @@ pub(crate) fn check(report: &mut Report) {
 mod tests {
     use super::*;
     use crate::fill::plain::{plain_inside, Fault, INSIDE_FAULTS};
-    use crate::search::{compare, named, tally};
+    use crate::search::{compare, compare_fixed, named, tally};
     use std::collections::BTreeMap;
 
     /// Whether the kinds of a name show that an implementation is wrong.
@@ -291,7 +291,9 @@ mod tests {
             for number in 0..kind.cases {
                 let mut found = false;
                 let cloud = kind.case(seed, number);
-                desk.cloud(inside, &cloud, |_, wrong| found |= wrong.is_some());
+                desk.cloud(inside, &cloud, |_, verdict| {
+                    found |= verdict.wrong.is_some()
+                });
                 if found {
                     return true;
                 }
@@ -373,7 +375,7 @@ mod tests {
         let wrong: Inside = |_, _, _| 5;
         let what = compare_clouds(wrong, SEED, &CLOUDS[0], 4).found();
         let points = 4 * POINTS as u64;
-        assert_eq!((what.cases, what.mismatches), (points, points));
+        assert_eq!((what.cases.all(), what.mismatches), (points, points));
         let what = what.smallest.expect("a mismatch");
         assert!(
             what.contains("tetrahedra, case 0: mesh 288, point ["),
@@ -395,8 +397,25 @@ mod tests {
     #[test]
     fn the_original_is_asked() {
         let case = Case::of(&cuboid([0.0; 3], [1.0; 3]), [0.5; 3]);
-        assert_eq!(unlike_the_original(&case, 1), None);
-        assert!(unlike_the_original(&case, 0).is_some());
-        assert_eq!(unlike_the_original(&case, 17), None);
+        let told = |answer: u64| unlike_the_original(&case, answer).wrong;
+        assert_eq!(told(1), None);
+        assert!(told(0).is_some());
+        assert_eq!(told(17), None);
+    }
+
+    /// Beside the original: each point of a cloud, and a call that has an answer. By the rule alone: a refusal.
+    #[test]
+    fn cases_are_counted_apart() {
+        let points = compare_clouds(ffi::inside, SEED, &CLOUDS[0], 2).found();
+        let all = 2 * POINTS as u64;
+        let beside = all * u64::from(original::AT_HAND);
+        assert_eq!(points.cases.apart(), (beside, all - beside));
+        let cube = cuboid([0.0; 3], [1.0; 3]);
+        for (x, asked) in [(0.5, true), (1.5, true), (5e6, false)] {
+            let case = Case::of(&cube, [x; 3]);
+            let found = compare_fixed::<Desk>(ffi::inside, [("", case, None)]).found();
+            let beside = u64::from(asked && original::AT_HAND);
+            assert_eq!(found.cases.apart(), (beside, 1 - beside));
+        }
     }
 }

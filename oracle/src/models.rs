@@ -4,10 +4,11 @@ use crate::ffi::{self, Built};
 use crate::fill::cases::Case;
 use crate::fill::fixed::walls_at;
 use crate::meshes::{bytes, cuboid, mesh_bytes, tetrahedron};
-use crate::original::{self, shim};
+use crate::original::{self, shim, Answered, Verdict};
 use crate::points::{point_file, Header, Record};
-use crate::report::{Found, Report};
+use crate::report::Report;
 use crate::rule;
+use crate::search::Search;
 
 /// A tetrahedron with corners at the origin and at 12 on each axis, seen from outside.
 const TETRAHEDRON: [f64; 36] = [
@@ -22,14 +23,14 @@ const KERNEL: [f64; 5] = [1.0, 2.0, 3.0, 0.5, 7.0];
 /// Says what is wrong, or nothing.
 type Model = (&'static str, fn() -> Result<(), String>);
 
-const MODELS: [Model; 14] = [
+/// They ask the original.
+const MODELS: [Model; 13] = [
     ("no record", no_record),
     ("one record", one_record),
     ("all cells of grid 2", full_grid_2),
     ("a full plane of grid 3", plane_of_grid_3),
     ("a corner of grid 4", corner_of_grid_4),
     ("a shared slot", shared_slot),
-    ("two edits undone", two_edits_undone),
     ("what the original accepts and the library refuses", laxer),
     (
         "what the original fills and the library refuses",
@@ -42,17 +43,22 @@ const MODELS: [Model; 14] = [
     ("filling at every grid size", filling),
 ];
 
+/// The original has no edits.
+const OF_THE_LIBRARY: Model = ("two edits undone", two_edits_undone);
+
 pub(crate) fn check(report: &mut Report) {
     report.run("original: models", || {
-        let wrong: Vec<String> = MODELS
-            .iter()
-            .filter_map(|(name, model)| model().err().map(|why| format!("{name}: {why}")))
-            .collect();
-        Found {
-            cases: MODELS.len() as u64,
-            mismatches: wrong.len() as u64,
-            smallest: wrong.into_iter().next(),
+        let mut search = Search::default();
+        let mut note = |name: &str, verdict: Verdict| {
+            let told = |why| format!("{name}: {why}");
+            search.note(0, search.cases.all(), verdict.told(told));
+        };
+        for (name, model) in MODELS {
+            note(name, original::modelled(model));
         }
+        let (name, model) = OF_THE_LIBRARY;
+        note(name, Verdict::by_rule(model().err()));
+        search.found()
     });
 }
 
@@ -278,11 +284,11 @@ fn laxer_in_filling() -> Result<(), String> {
         ("an infinite mass", heavy, 20),
     ];
     for (name, case, cause) in cases {
-        let taken = original::filled(&case.body()).is_some_and(|file| file.is_ok());
+        let taken = original::filled(&case.body()).is_some_and(|file| file.taken().is_ok());
         same(name, (filled(&case), taken), (cause, true))?;
     }
     let flat_and_full = Case::of(2, &cuboid([999_999.99; 3], [1e6; 3]));
-    let told = original::filled(&flat_and_full.body()).and_then(Result::err);
+    let told = original::filled(&flat_and_full.body()).and_then(|file| file.taken().err());
     let told = (filled(&flat_and_full), told.as_deref());
     same(
         "flat and over capacity",
@@ -296,7 +302,7 @@ fn laxer_in_filling() -> Result<(), String> {
 fn ray() -> Result<(), String> {
     let triangle = [[1.0, -1.0, -1.0], [1.0, 1.0, -1.0], [1.0, 0.0, 1.0]];
     let points = [[0.0; 3], [2.0, 0.0, 0.0]];
-    let by_original = points.map(|point| original::ray(point, &triangle));
+    let by_original = points.map(|point| original::ray(point, &triangle).map(Answered::taken));
     same("by the original", by_original, [Some(1.0), Some(-1.0)])?;
     let by_rule = points.map(|point| rule::fill::crossing(point, triangle));
     same("by the rule", by_rule, [Some(1.0), None])?;
@@ -314,7 +320,7 @@ fn near_crossings() -> Result<(), String> {
     for (walls, inside) in [(&near[..], false), (&near[..2], true)] {
         let mesh = walls_at(walls);
         let list = mesh_bytes(&mesh);
-        let by_original = original::inside(&list, &[[0.0; 3]]);
+        let by_original = original::inside(&list, &[[0.0; 3]]).map(Answered::taken);
         same("by the original", by_original, Some(vec![inside]))?;
         let by_library = ffi::inside(&list, [0.0; 3], &mut [0.0; 4]);
         same("by the library", by_library, u64::from(inside))?;
@@ -401,7 +407,7 @@ fn cells_inside(g: usize) -> Vec<[u32; 3]> {
 mod tests {
     #[test]
     fn models() {
-        for (name, model) in super::MODELS {
+        for (name, model) in super::MODELS.into_iter().chain([super::OF_THE_LIBRARY]) {
             assert_eq!(model(), Ok(()), "{name}");
         }
     }

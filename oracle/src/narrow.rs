@@ -3,7 +3,8 @@
 //! A case is a binary64 pattern. Rust leaves a NaN's answer open; the library's is 0x7fc00000.
 
 use crate::ffi;
-use crate::report::{Found, Report};
+use crate::original::{self, Verdict};
+use crate::report::{Cases, Found, Report};
 use crate::rng::Rng;
 
 pub(crate) const QUIET_NAN: u32 = 0x7fc0_0000;
@@ -48,8 +49,17 @@ pub(crate) fn expected(pattern: u64) -> u32 {
     }
 }
 
-pub(crate) fn differs(pattern: u64) -> bool {
-    ffi::narrow(pattern) != u64::from(expected(pattern))
+/// The library's answer, held to Rust's where it has one, and to the answer owed.
+fn verdict(pattern: u64) -> Verdict {
+    let got = ffi::narrow(pattern);
+    let differs = |want: u32| {
+        let x = f64::from_bits(pattern);
+        let told =
+            || format!("{pattern:#018x} ({x:e}): library {got:#010x}, expected {want:#010x}");
+        (got != u64::from(want)).then(told)
+    };
+    Verdict::by_original(original::narrowed(pattern), differs)
+        .and(|| Verdict::by_rule(differs(expected(pattern))))
 }
 
 /// A class of random patterns.
@@ -199,25 +209,26 @@ fn both_signs(magnitude: u64, visit: &mut impl FnMut(u64)) {
 
 /// The mismatches seen so far, and the least of them by set bits, then by pattern.
 struct Search<F> {
-    fails: F,
-    cases: u64,
+    verdict: F,
+    cases: Cases,
     mismatches: u64,
     least: Option<(u32, u64)>,
 }
 
-impl<F: Fn(u64) -> bool> Search<F> {
-    fn new(fails: F) -> Self {
+impl<F: Fn(u64) -> Verdict> Search<F> {
+    fn new(verdict: F) -> Self {
         Self {
-            fails,
-            cases: 0,
+            verdict,
+            cases: Cases::default(),
             mismatches: 0,
             least: None,
         }
     }
 
     fn visit(&mut self, pattern: u64) {
-        self.cases += 1;
-        if (self.fails)(pattern) {
+        let verdict = (self.verdict)(pattern);
+        self.cases.note(&verdict);
+        if verdict.wrong.is_some() {
             self.mismatches += 1;
             let size = (pattern.count_ones(), pattern);
             self.least = Some(self.least.map_or(size, |least| least.min(size)));
@@ -225,14 +236,17 @@ impl<F: Fn(u64) -> bool> Search<F> {
     }
 
     fn smallest(&self) -> Option<u64> {
-        self.least.map(|(_, pattern)| shrink(pattern, &self.fails))
+        let fails = |pattern| (self.verdict)(pattern).wrong.is_some();
+        self.least.map(|(_, pattern)| shrink(pattern, fails))
     }
 
     fn found(&self) -> Found {
         Found {
             cases: self.cases,
             mismatches: self.mismatches,
-            smallest: self.smallest().map(describe),
+            smallest: self
+                .smallest()
+                .and_then(|pattern| (self.verdict)(pattern).wrong),
         }
     }
 }
@@ -253,30 +267,21 @@ fn shrink(mut pattern: u64, fails: impl Fn(u64) -> bool) -> u64 {
     }
 }
 
-fn describe(pattern: u64) -> String {
-    format!(
-        "{pattern:#018x} ({:e}): library {:#010x}, expected {:#010x}",
-        f64::from_bits(pattern),
-        ffi::narrow(pattern),
-        expected(pattern)
-    )
-}
-
 /// Compares patterns that come from anywhere.
 pub(crate) fn compare(patterns: impl Iterator<Item = u64>) -> Found {
-    let mut search = Search::new(differs);
+    let mut search = Search::new(verdict);
     patterns.for_each(|pattern| search.visit(pattern));
     search.found()
 }
 
 pub(crate) fn check(report: &mut Report) {
     report.run("narrow: every exponent", || {
-        let mut search = Search::new(differs);
+        let mut search = Search::new(verdict);
         at_every_exponent(|pattern| search.visit(pattern));
         search.found()
     });
     report.run("narrow: edges", || {
-        let mut search = Search::new(differs);
+        let mut search = Search::new(verdict);
         at_every_edge(|pattern| search.visit(pattern));
         search.found()
     });
@@ -371,11 +376,24 @@ mod tests {
     /// A made-up fault is found and shrunk to the least pattern that shows it.
     #[test]
     fn smallest_failure() {
-        let mut search = Search::new(|pattern: u64| pattern & SIGN != 0 && pattern & 0xff00 != 0);
+        let fails = |pattern: u64| pattern & SIGN != 0 && pattern & 0xff00 != 0;
+        let mut search = Search::new(|pattern| Verdict::by_rule(fails(pattern).then(String::new)));
         let mut rng = Rng::new(1);
         (0..1000).for_each(|_| search.visit(rng.bits()));
         assert!(search.mismatches > 400);
         assert_eq!(search.smallest(), Some(SIGN | 0x100));
-        assert_eq!(Search::new(|_| false).smallest(), None);
+        assert_eq!(Search::new(|_| Verdict::default()).smallest(), None);
+    }
+
+    /// Beside the original: all but NaNs.
+    #[test]
+    fn cases_are_counted_apart() {
+        let numbers = [0.0, -1.5, 1e300, 5e-324, f64::NEG_INFINITY];
+        let patterns = numbers.map(f64::to_bits).into_iter();
+        let nans = [QUIET_NAN.into(), u64::MAX].map(|low: u64| low | 0x7ff0_0000_0000_0000);
+        let found = compare(patterns.chain(nans));
+        let beside = 5 * u64::from(original::AT_HAND);
+        assert_eq!(found.cases.apart(), (beside, 7 - beside));
+        assert_eq!(found.smallest, None);
     }
 }

@@ -267,7 +267,7 @@ mod tests {
     fn the_smallest_is_told() {
         let wrong: Open = |_, _, _, _| 5;
         let what = compare::<Desk>(wrong, SEED, &KINDS[0], 300).found();
-        assert_eq!((what.cases, what.mismatches), (300, 300));
+        assert_eq!((what.cases.all(), what.mismatches), (300, 300));
         let what = what.smallest.expect("a mismatch");
         assert!(what.contains("g 1, 0 records, file 64"), "{what}");
         assert!(what.ends_with("library answers 5, rule 64"), "{what}");

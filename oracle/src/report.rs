@@ -1,17 +1,51 @@
 //! What a run of comparisons prints: a line for each, and a final one.
 
+use crate::original::Verdict;
 use std::time::{Duration, Instant};
 
 pub(crate) struct Report {
     started: Instant,
     comparisons: u64,
-    cases: u64,
+    cases: Cases,
     mismatches: u64,
+}
+
+/// Cases counted by their verdicts: beside the original, and by the rule alone.
+#[derive(Clone, Copy, Debug, Default, PartialEq)]
+pub(crate) struct Cases {
+    beside: u64,
+    alone: u64,
+}
+
+impl Cases {
+    pub(crate) fn note(&mut self, verdict: &Verdict) {
+        match verdict.is_beside() {
+            true => self.beside += 1,
+            false => self.alone += 1,
+        }
+    }
+
+    pub(crate) fn and(self, other: Self) -> Self {
+        Self {
+            beside: self.beside + other.beside,
+            alone: self.alone + other.alone,
+        }
+    }
+
+    pub(crate) fn all(self) -> u64 {
+        self.beside + self.alone
+    }
+
+    /// How many are beside the original, and how many by the rule alone.
+    #[cfg(test)]
+    pub(crate) fn apart(self) -> (u64, u64) {
+        (self.beside, self.alone)
+    }
 }
 
 /// What one comparison found.
 pub(crate) struct Found {
-    pub(crate) cases: u64,
+    pub(crate) cases: Cases,
     pub(crate) mismatches: u64,
     /// The smallest failing input, where there is a mismatch.
     pub(crate) smallest: Option<String>,
@@ -22,7 +56,7 @@ impl Report {
         Self {
             started: Instant::now(),
             comparisons: 0,
-            cases: 0,
+            cases: Cases::default(),
             mismatches: 0,
         }
     }
@@ -32,7 +66,7 @@ impl Report {
         let started = Instant::now();
         let found = comparison();
         // To compare no case is no agreement.
-        let mismatches = found.mismatches.max(u64::from(found.cases == 0));
+        let mismatches = found.mismatches.max(u64::from(found.cases.all() == 0));
         println!(
             "{name:<28} {}",
             numbers(found.cases, mismatches, started.elapsed())
@@ -41,7 +75,7 @@ impl Report {
             println!("  smallest: {smallest}");
         }
         self.comparisons += 1;
-        self.cases += found.cases;
+        self.cases = self.cases.and(found.cases);
         self.mismatches += mismatches;
     }
 
@@ -56,9 +90,11 @@ impl Report {
     }
 }
 
-fn numbers(cases: u64, mismatches: u64, time: Duration) -> String {
+fn numbers(cases: Cases, mismatches: u64, time: Duration) -> String {
+    let all = cases.all();
+    let Cases { beside, alone } = cases;
     format!(
-        "{cases:>12} cases {mismatches:>9} mismatches {:>8.3} s",
+        "{all:>9} cases {beside:>9} beside the original {alone:>9} by the rule alone {mismatches:>9} mismatches {:>8.3} s",
         time.as_secs_f64()
     )
 }
@@ -68,8 +104,9 @@ mod tests {
     use super::*;
 
     /// Whether a comparison of so many cases with so many mismatches is told as agreement.
-    fn agreed(cases: u64, mismatches: u64) -> bool {
+    fn agreed(alone: u64, mismatches: u64) -> bool {
         let mut report = Report::new();
+        let cases = Cases { beside: 0, alone };
         report.run("test", || Found {
             cases,
             mismatches,
@@ -82,5 +119,17 @@ mod tests {
     fn nothing_compared_is_no_agreement() {
         assert!(agreed(1, 0) && !agreed(1, 1) && !agreed(0, 0));
         assert!(!Report::new().finish());
+    }
+
+    #[test]
+    fn both_counts_are_printed() {
+        let cases = Cases {
+            beside: 30,
+            alone: 4,
+        };
+        let words = numbers(cases.and(cases), 5, Duration::from_millis(1500));
+        let words: Vec<&str> = words.split_whitespace().collect();
+        let said = "68 cases 60 beside the original 8 by the rule alone 5 mismatches 1.500 s";
+        assert_eq!(words.join(" "), said);
     }
 }

@@ -1,7 +1,8 @@
 //! A search for mismatches: the cases shared out to threads, the least failing one kept.
 
 use crate::open::cases::Kind;
-use crate::report::{Found, Report};
+use crate::original::Verdict;
+use crate::report::{Cases, Found, Report};
 #[cfg(test)]
 use std::collections::BTreeMap;
 use std::fmt::{Display, LowerHex};
@@ -12,16 +13,16 @@ const THREADS: u64 = 2;
 /// The mismatches seen so far, and the least of them by the bytes lent, then by its number.
 #[derive(Default)]
 pub(crate) struct Search {
-    pub(crate) cases: u64,
+    pub(crate) cases: Cases,
     pub(crate) mismatches: u64,
     least: Option<(usize, u64, String)>,
 }
 
 impl Search {
-    /// One more case, with what is wrong about it, if anything is.
-    pub(crate) fn note(&mut self, size: usize, number: u64, wrong: Option<String>) {
-        self.cases += 1;
-        if let Some(what) = wrong {
+    /// One more case, with the verdict on it.
+    pub(crate) fn note(&mut self, size: usize, number: u64, verdict: Verdict) {
+        self.cases.note(&verdict);
+        if let Some(what) = verdict.wrong {
             self.mismatches += 1;
             self.least = self
                 .least
@@ -32,7 +33,7 @@ impl Search {
         }
     }
 
-    /// The rule itself is wrong about a case that is noted already: told before all others.
+    /// Something besides is wrong, about a case that is noted already or about none: told before all others.
     pub(crate) fn note_first(&mut self, number: u64, what: String) {
         self.mismatches += 1;
         self.least = Some((0, number, what));
@@ -40,7 +41,7 @@ impl Search {
 
     fn and(self, other: Self) -> Self {
         Self {
-            cases: self.cases + other.cases,
+            cases: self.cases.and(other.cases),
             mismatches: self.mismatches + other.mismatches,
             least: self.least.into_iter().chain(other.least).min(),
         }
@@ -89,8 +90,13 @@ pub(crate) trait Desk {
 
     fn new() -> Self;
 
-    /// Makes the call of a case and says what differs from the rule, or in the rule from the original, if anything does.
+    /// Makes the call of a case and says what differs from the rule, if anything does.
     fn differs(&mut self, call: Self::Call, case: &Self::Case) -> Option<String>;
+
+    /// The rule's answer to the case that was made last, held to the original where it is asked.
+    fn beside_original(&self, _: &Self::Case) -> Verdict {
+        Verdict::default()
+    }
 
     /// The rule's answer to the case that was made last.
     fn want(&self) -> Self::Answer;
@@ -112,9 +118,13 @@ fn visit<D: Desk>(
     (name, number): (&str, u64),
     case: &D::Case,
 ) {
-    let wrong = desk.differs(call, case);
-    let told = wrong.map(|what| format!("{name}, case {number}: {}: {what}", D::described(case)));
-    search.note(D::size(case), number, told);
+    let told = |what| format!("{name}, case {number}: {}: {what}", D::described(case));
+    let verdict = Verdict::by_rule(desk.differs(call, case));
+    let verdict = verdict.and(|| {
+        let answer = |what| format!("answer {}, {what}", desk.want());
+        desk.beside_original(case).told(answer)
+    });
+    search.note(D::size(case), number, verdict.told(told));
 }
 
 /// Compares the cases of a kind, the work shared out by their numbers.

@@ -13,7 +13,7 @@ mod open;
 mod ray;
 
 use crate::narrow;
-use crate::report::{Found, Report};
+use crate::report::{Cases, Found, Report};
 use crate::rng::Rng;
 use std::collections::HashSet;
 use std::path::{Path, PathBuf};
@@ -154,7 +154,7 @@ fn check_file(report: &mut Report, name: &str, replay: fn(&[u8]) -> Found) {
     report.run(&format!("stored: {name}"), || match fs::read(&file) {
         Ok(stored) => replay(&stored),
         Err(error) => Found {
-            cases: 0,
+            cases: Cases::default(),
             mismatches: 1,
             smallest: Some(format!("{name}: {error}")),
         },

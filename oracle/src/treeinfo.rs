@@ -2,8 +2,9 @@
 
 use crate::build::cases::KINDS;
 use crate::build::of_cells;
+use crate::original::Verdict;
 use crate::points::{point_file, record, Header, Record};
-use crate::report::{Found, Report};
+use crate::report::{Cases, Found, Report};
 use crate::rule;
 use crate::search::Search;
 use std::io::{ErrorKind, Write as _};
@@ -119,7 +120,7 @@ fn compare(printed: impl Fn(&[u8]) -> Result<Vec<u8>, String>, inputs: &[Input])
         let size = input.bytes.len();
         let wrong = wrong(printed(&input.bytes), input);
         let told = wrong.map(|what| format!("{}, {size} bytes: {what}", input.name));
-        search.note(size, number, told);
+        search.note(size, number, Verdict::by_rule(told));
     }
     search
 }
@@ -240,7 +241,7 @@ pub(crate) fn check(report: &mut Report) {
         Ok(program) => program,
         Err(why) => {
             let missing = Found {
-                cases: 0,
+                cases: Cases::default(),
                 mismatches: 1,
                 smallest: Some(why),
             };
@@ -272,7 +273,7 @@ mod tests {
         let by_rule = |input: &[u8]| Ok(line(input).into_bytes());
         for (inputs, cases) in [(fixed(), 25), (small(), SMALL as u64)] {
             let search = compare(by_rule, &inputs);
-            assert_eq!((search.cases, search.mismatches), (cases, 0));
+            assert_eq!((search.cases.apart(), search.mismatches), ((0, cases), 0));
         }
     }
 

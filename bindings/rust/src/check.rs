@@ -2,7 +2,7 @@
 
 use crate::points::{float_at, grid_of, half_at, records_of, word_at, HEADER, POINTS_WORD, RECORD};
 use crate::tree::{NODE, TREE_WORD};
-use crate::{cells, Point, Refusal, MAX_GRID};
+use crate::{cells, ffi, Point, Refusal, MAX_GRID};
 use std::fmt;
 
 /// What a fault stands in.
@@ -153,6 +153,10 @@ fn header_floats(
 /// assert_eq!(report.faults[0].to_string(), "cause 3: header, grid, byte 8: 0 is not 1 to 256");
 /// ```
 pub fn check_points(bytes: &[u8], most: usize) -> Report {
+    ffi::in_default_mode(|| points_report(bytes, most))
+}
+
+fn points_report(bytes: &[u8], most: usize) -> Report {
     let mut report = Report::new(most);
     if bytes.len() < HEADER {
         let why = format!("{} bytes, a header has 64", bytes.len());
@@ -380,6 +384,10 @@ impl TreeWalk<'_> {
 /// # Ok::<(), mascon::Refusal>(())
 /// ```
 pub fn check_tree(bytes: &[u8], most: usize) -> Report {
+    ffi::in_default_mode(|| tree_report(bytes, most))
+}
+
+fn tree_report(bytes: &[u8], most: usize) -> Report {
     let mut report = Report::new(most);
     tree_header(&mut report, bytes);
     if !report.is_clean() {
@@ -437,7 +445,7 @@ fn tree_header(report: &mut Report, bytes: &[u8]) {
         }
     }
     let (nodes, length) = (nodes as usize, bytes.len());
-    if nodes == 0 || nodes > 2 * cells(grid) - 1 || nodes > (length - HEADER) / NODE {
+    if nodes == 0 || nodes > cells(grid) || nodes > (length - HEADER) / NODE {
         let why = format!("{nodes} nodes do not fit grid {grid} and {length} bytes");
         report.add(None, Place::Header, "node count", 56, why);
     }

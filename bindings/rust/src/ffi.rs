@@ -1,10 +1,16 @@
 //! The C boundary (include/mascon.h) behind safe functions: all unsafe code of the crate.
 //!
 //! Every call is proved to stay within the lent slices for every content and length. What is left to the caller, that buffers
-//! which are written do not overlap others, the borrows here ensure.
+//! which are written do not overlap others, the borrows here ensure; that the floating-point mode is the default, `exported` does.
 #![allow(unsafe_code)]
 
+mod mode;
+#[cfg(test)]
+mod tests;
+
 use crate::Refusal;
+pub(crate) use mode::in_default_mode;
+use mode::Mode;
 
 /// What build answers.
 #[repr(C)]
@@ -14,9 +20,29 @@ pub(crate) struct Built {
     pub(crate) order: u64,
 }
 
-unsafe extern "C" {
-    // Numbers in, a number out: safe for every argument.
-    safe fn mascon_narrow(x: f64) -> u64;
+/// The library's calls. Each has a function of its name that makes it in the default mode, and is out of reach but for that.
+macro_rules! exported {
+    ($(fn $name:ident($($argument:ident: $type:ty),* $(,)?) -> $answer:ty;)*) => {
+        mod raw {
+            use super::Built;
+
+            unsafe extern "C" {
+                $(pub(super) fn $name($($argument: $type),*) -> $answer;)*
+            }
+        }
+
+        $(
+            #[allow(clippy::too_many_arguments)]
+            unsafe fn $name($($argument: $type),*) -> $answer {
+                let _mode = Mode::set_default();
+                unsafe { raw::$name($($argument),*) }
+            }
+        )*
+    };
+}
+
+exported! {
+    fn mascon_narrow(x: f64) -> u64;
 
     fn mascon_inside(
         triangles: *const u8,
@@ -111,7 +137,7 @@ fn refusal(answer: u64) -> Refusal {
 }
 
 pub(crate) fn narrow(x: f64) -> u32 {
-    u32::try_from(mascon_narrow(x)).expect("below 2^32")
+    u32::try_from(unsafe { mascon_narrow(x) }).expect("below 2^32")
 }
 
 pub(crate) fn inside(
@@ -187,6 +213,7 @@ pub(crate) fn open(
     })
 }
 
+#[inline]
 pub(crate) fn put(
     file: &mut [u8],
     journal: &mut [u32],
@@ -209,6 +236,7 @@ pub(crate) fn put(
     })
 }
 
+#[inline]
 pub(crate) fn remove(
     file: &mut [u8],
     journal: &mut [u32],
@@ -227,6 +255,7 @@ pub(crate) fn remove(
     })
 }
 
+#[inline]
 pub(crate) fn undo(file: &mut [u8], journal: &mut [u32]) -> Result<usize, Refusal> {
     length(unsafe {
         mascon_undo(

@@ -1,7 +1,7 @@
 //! Meshes, kernels and edits as text, with the line of what is wrong.
 
 use crate::fill::{MAX_COORDINATE, MAX_KERNELS, MAX_SIGMA, MAX_TRIANGLES, MAX_WEIGHT};
-use crate::{Kernel, Model, Refusal, Triangle};
+use crate::{ffi, Kernel, Model, Refusal, Triangle};
 use std::collections::{HashMap, HashSet};
 use std::fmt;
 
@@ -159,6 +159,10 @@ impl Reader {
 /// # Errors
 /// The first line that is wrong.
 pub fn parse_obj(text: &str, scale: f64) -> Result<Mesh, LineError> {
+    ffi::in_default_mode(|| obj(text, scale))
+}
+
+fn obj(text: &str, scale: f64) -> Result<Mesh, LineError> {
     let mut reader = Reader::default();
     let mut ignored: Vec<(String, usize)> = Vec::new();
     let mut lines = lines(text);
@@ -241,6 +245,10 @@ pub fn write_obj(triangles: &[Triangle]) -> String {
 /// # Errors
 /// The first line that is wrong.
 pub fn parse_kernels(text: &str) -> Result<Vec<Kernel>, LineError> {
+    ffi::in_default_mode(|| kernels(text))
+}
+
+fn kernels(text: &str) -> Result<Vec<Kernel>, LineError> {
     let mut kernels = Vec::new();
     for (line, words) in lines(text) {
         if words.is_empty() {
@@ -321,7 +329,7 @@ impl Edit {
             word.parse::<u32>().map_err(wrong)
         };
         let mass = |word: &str| {
-            word.parse::<f32>()
+            ffi::in_default_mode(|| word.parse::<f32>())
                 .map_err(|_| format!("`{word}` is not a mass"))
         };
         match words {

@@ -94,14 +94,14 @@ impl Tree {
     /// # Errors
     /// 1 to 7.
     pub fn build(file: &[u8]) -> Result<Tree, Refusal> {
-        let most_order = grid_of(file).map_or(0, cells);
-        let most_nodes = (2 * most_order).saturating_sub(1);
+        // At most one order word and one node to a cell.
+        let most = grid_of(file).map_or(0, cells);
         let count = records_of(file);
         // Most trees have fewer nodes than half their points; where that is short, twice as many, up to what always is enough.
-        let mut nodes = (count / 2 + 256).min(most_nodes);
+        let mut nodes = (count / 2 + 256).min(most);
         let mut scratch = scratch(file);
         loop {
-            let mut out = vec![0; HEADER + NODE * nodes + 4 * count.min(most_order)];
+            let mut out = vec![0; HEADER + NODE * nodes + 4 * count.min(most)];
             match ffi::build(file, &mut scratch, &mut out) {
                 Ok((length, nodes, order)) => {
                     out.truncate(length);
@@ -113,9 +113,7 @@ impl Tree {
                         order,
                     });
                 }
-                Err(Refusal::OutputTooShort) if nodes < most_nodes => {
-                    nodes = (2 * nodes).min(most_nodes);
-                }
+                Err(Refusal::OutputTooShort) if nodes < most => nodes = (2 * nodes).min(most),
                 Err(refusal) => return Err(refusal),
             }
         }

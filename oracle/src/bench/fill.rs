@@ -71,7 +71,7 @@ fn race(grid: usize, mesh: &Mesh) -> Result<(usize, [Duration; 2]), String> {
             ffi::fill(&case.body(), &mut floats, &mut out)
         });
         let file = timed(&mut times[1], || original::filled(&case.body()));
-        let file = file.ok_or("the original is not at hand")??;
+        let file = file.ok_or("the original is not at hand")?.taken()?;
         length = file.len();
         if answer != length as u64 || out[..length] != file {
             return Err(format!(

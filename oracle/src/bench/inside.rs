@@ -51,7 +51,8 @@ fn race(input: &Input) -> Result<(usize, Times), String> {
     let points: Vec<Point> = (0..input.points)
         .map(|_| anywhere(&mut rng, -100.0, 100.0))
         .collect();
-    let told = original::inside(&list, &points).ok_or("the original is not at hand")?;
+    let told = original::inside(&list, &points);
+    let told = told.ok_or("the original is not at hand")?.taken();
     let mut floats = vec![0.0; mesh.len()];
     let case = Case::of(input.grid, &mesh);
     let mut out = vec![7; case.out];

@@ -2,10 +2,11 @@
 
 use super::cases::{of_cells, Case};
 use crate::meshes::{
-    bytes, cuboid, dot, no_candidate, octahedron, past_edge, relative_tie, tetrahedron, wall, Mesh,
+    between, bytes, cuboid, dot, lumpy, moved, no_candidate, octahedron, past_edge, relative_tie,
+    tetrahedron, turned, wall, Mesh,
 };
 use crate::rng::Rng;
-use crate::rule::fill::{needed, HEAVIEST, MOST_KERNELS, MOST_TRIANGLES};
+use crate::rule::fill::{capacity, needed, Point, HEAVIEST, MOST_KERNELS, MOST_TRIANGLES};
 
 /// Walls before the origin, which is the middle of the one cell at g 1.
 pub(crate) fn walls_at(distances: &[f64]) -> Mesh {
@@ -26,7 +27,7 @@ pub(crate) fn low_wall(height: f64) -> Mesh {
 }
 
 /// The corner of a cube, cut off at `side` on each axis.
-fn corner(side: f64) -> Mesh {
+pub(super) fn corner(side: f64) -> Mesh {
     let [x, y, z] = [[side, 0.0, 0.0], [0.0, side, 0.0], [0.0, 0.0, side]];
     tetrahedron([[0.0; 3], x, y, z])
 }
@@ -131,7 +132,93 @@ pub(crate) fn small() -> Vec<(&'static str, Case, u64)> {
     ]
 }
 
-/// All cases, with their answers where 01 or arithmetic gives them.
+/// Where the bodies at large grid sizes stand, off every axis, and how far they go.
+const AT: Point = [-310.25, 1204.5, 77.125];
+const REACH: Point = [528.5, 391.75, 333.3];
+
+/// So many kernels all over such a body, some of them below 0.
+fn kernels(rng: &mut Rng, count: usize) -> Vec<u8> {
+    let kernel = |_| {
+        let [x, y, z] = [0, 1, 2].map(|axis| AT[axis] + REACH[axis] * between(rng, -1.0, 1.0));
+        let sigma = between(rng, 1e-4, 1e-2);
+        [x, y, z, sigma, between(rng, -200.0, 2e3)]
+    };
+    let kernels: Vec<[f64; 5]> = (0..count).map(kernel).collect();
+    bytes(kernels.as_flattened())
+}
+
+/// A body that reaches about 1 from the origin, put there with kernels, some triangles the other way round.
+fn body(grid: usize, mesh: Mesh, target: f64) -> Case {
+    let mut rng = Rng::new(grid as u64);
+    let mesh = turned(&mut rng, moved(mesh, AT, REACH));
+    Case {
+        cauchy: kernels(&mut rng, 7),
+        elliptic: kernels(&mut rng, 4),
+        target,
+        density: 1270.5,
+        junk: 0x5eed_0003,
+        ..Case::of(grid, &mesh)
+    }
+}
+
+/// A lumpy sphere of 8n² triangles.
+fn lump(n: i32) -> Mesh {
+    lumpy(&mut Rng::new(64), n, [0.0; 3], 1.0, 0.6)
+}
+
+/// Two of them, the second smaller, that go through each other a little.
+fn two_lumps([n, m]: [i32; 2]) -> Mesh {
+    let mut rng = Rng::new(192);
+    let mut mesh = lumpy(&mut rng, n, [-0.375, 0.0625, 0.0], 0.625, 0.7);
+    mesh.extend(lumpy(&mut rng, m, [0.5, -0.125, 0.25], 0.5, 0.7));
+    mesh
+}
+
+/// A thin plate across all axes.
+fn plate() -> Mesh {
+    let slanted = |[x, y, z]: Point| {
+        [
+            0.7 * x - 0.3 * y + z,
+            0.4 * x + 0.6 * y - z,
+            0.5 * y - 0.45 * x + z,
+        ]
+    };
+    let flat = cuboid([-1.0, -1.0, -0.0125], [1.0, 1.0, 0.0125]);
+    flat.into_iter()
+        .map(|triangle| triangle.map(slanted))
+        .collect()
+}
+
+/// Bodies at the original's own grid size, 192, and at 64. How many points a body has is known from the original; at g 192 the library
+/// takes seconds for a hundred triangles.
+pub(super) fn large() -> [(&'static str, Case, u64); 10] {
+    let of = |points: u64| 64 + 16 * points;
+    let half = |grid: usize| Case::of(grid, &of_cells(grid, capacity(grid as u64) as usize));
+    let more = Case::of(192, &of_cells(192, capacity(192) as usize + 1));
+    let cube = body(64, cuboid([-1.0; 3], [1.0; 3]), 4.5e11);
+    [
+        ("g 64, a lump", body(64, lump(10), 4.5e11), of(73_944)),
+        (
+            "g 64, two lumps",
+            body(64, two_lumps([6, 6]), 0.0),
+            of(70_892),
+        ),
+        ("g 64, a plate", body(64, plate(), 1.0), of(3_914)),
+        ("g 64, a cube", cube, 18),
+        ("half of g 64", half(64), of(capacity(64))),
+        ("g 192, a lump", body(192, lump(4), 4.5e11), of(2_514_860)),
+        (
+            "g 192, two lumps",
+            body(192, two_lumps([3, 2]), 0.0),
+            of(2_318_314),
+        ),
+        ("g 192, a plate", body(192, plate(), 1.0), of(108_418)),
+        ("half of g 192", half(192), of(capacity(192))),
+        ("one more", more, 18),
+    ]
+}
+
+/// All cases, with their answers where 01, arithmetic or the original gives them.
 pub(super) fn all() -> Vec<(&'static str, Case, Option<u64>)> {
     let corner = corner(3.0);
     let of_kernels = |cauchy: usize, elliptic: usize| {
@@ -148,8 +235,8 @@ pub(super) fn all() -> Vec<(&'static str, Case, Option<u64>)> {
     many.extend(corner.clone());
     let most_triangles = Case::of(1, &many);
     many.push(dot([2.0; 3]));
-    let small = small().into_iter();
-    let mut all: Vec<_> = small
+    let known = small().into_iter().chain(large());
+    let mut all: Vec<_> = known
         .map(|(name, case, answer)| (name, case, Some(answer)))
         .collect();
     all.extend([

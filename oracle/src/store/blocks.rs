@@ -2,7 +2,9 @@
 
 use crate::lent::{mixed, Buffers};
 use crate::open::cases::Kind;
+use crate::original::Verdict;
 use crate::report::Found;
+use crate::search::Search;
 use std::fmt::Display;
 
 /// A stored call, or list of calls, with its answer, in a block of its own.
@@ -22,7 +24,7 @@ pub(super) trait Block: Sized {
     fn read(block: &[u8]) -> Option<Self>;
 
     /// What is wrong with it, by the library, by the rule or by the original.
-    fn wrong(&self) -> Option<String>;
+    fn verdict(&self) -> Verdict;
 }
 
 /// The bytes of a file of stored answers.
@@ -34,33 +36,24 @@ pub(super) fn bytes<B: Block>() -> Vec<u8> {
 /// Holds the library, the rule and the original to the stored answers.
 pub(super) fn replay<B: Block>(stored: &[u8]) -> Found {
     replay_by(B::LENGTH, stored, |block| match B::read(block) {
-        Some(stored) => stored.wrong(),
-        None => Some("a length past its part, or a call of no kind".into()),
+        Some(stored) => stored.verdict(),
+        None => Verdict::by_rule(Some("a length past its part, or a call of no kind".into())),
     })
 }
 
-/// Looks at each block of this length with `wrong`.
-pub(super) fn replay_by(
-    length: usize,
-    stored: &[u8],
-    wrong: impl Fn(&[u8]) -> Option<String>,
-) -> Found {
+/// Looks at each block of this length with `verdict`.
+pub(super) fn replay_by(length: usize, stored: &[u8], verdict: impl Fn(&[u8]) -> Verdict) -> Found {
+    let mut search = Search::default();
     let blocks = stored.chunks_exact(length);
     let rest = blocks.remainder();
-    let told = (0..)
-        .zip(blocks.clone())
-        .filter_map(|(number, block): (u64, _)| {
-            wrong(block).map(|what| format!("case {number}: {what}"))
-        });
-    let mut told: Vec<String> = told.collect();
+    for (number, block) in (0..).zip(blocks) {
+        let told = |what| format!("case {number}: {what}");
+        search.note(length, number, verdict(block).told(told));
+    }
     if !rest.is_empty() {
-        told.push("the file ends inside a case".into());
+        search.note_first(0, "the file ends inside a case".into());
     }
-    Found {
-        cases: blocks.len() as u64,
-        mismatches: told.len() as u64,
-        smallest: told.into_iter().next(),
-    }
+    search.found()
 }
 
 /// What is told where an answer, or the bytes that go with it, are not as stored.
@@ -186,6 +179,6 @@ pub(super) mod testing {
         bytes.pop();
         let found = replay::<B>(&bytes);
         let told = others.len() as u64 + 2;
-        assert_eq!((found.cases, found.mismatches), (cases - 1, told));
+        assert_eq!((found.cases.all(), found.mismatches), (cases - 1, told));
     }
 }

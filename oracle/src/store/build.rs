@@ -10,7 +10,7 @@ use crate::build::{unlike_the_original, Build};
 use crate::ffi::{self, Built};
 use crate::open::cases::Case;
 use crate::open::out_byte;
-use crate::original;
+use crate::original::{self, Answered, Verdict};
 use crate::rule;
 
 const CASES: usize = 300;
@@ -62,7 +62,7 @@ impl Block for Stored {
         };
         stored.by_rule();
         if stored.built.answer >= 64 {
-            if let Some((tree, built)) = original::tree(&stored.file) {
+            if let Some((tree, built)) = original::tree(&stored.file).map(Answered::taken) {
                 stored.out[1][..tree.len()].copy_from_slice(&tree);
                 stored.built = built;
             }
@@ -103,10 +103,10 @@ impl Block for Stored {
         })
     }
 
-    fn wrong(&self) -> Option<String> {
-        self.unlike_the_library(ffi::build)
-            .or_else(|| self.differs("rule", Self::by_rule))
-            .or_else(|| unlike_the_original(&self.file, self.built, &self.out[1]))
+    fn verdict(&self) -> Verdict {
+        let wrong = self.unlike_the_library(ffi::build);
+        Verdict::by_rule(wrong.or_else(|| self.differs("rule", Self::by_rule)))
+            .and(|| unlike_the_original(&self.file, self.built, &self.out[1]))
     }
 }
 

@@ -9,6 +9,7 @@ use super::blocks::{bytes_of, laid, words_of, Block};
 use crate::edit::cases::{Case, DAMAGED, HISTORIES};
 use crate::edit::{library, small_fixed, Edit};
 use crate::lent::Lent;
+use crate::original::Verdict;
 use crate::rule;
 use crate::rule::edit::Call;
 
@@ -157,9 +158,9 @@ impl Block for Stored {
         })
     }
 
-    fn wrong(&self) -> Option<String> {
-        self.differs("library", library)
-            .or_else(|| self.differs("rule", rule::edit::edit))
+    fn verdict(&self) -> Verdict {
+        let wrong = self.differs("library", library);
+        Verdict::by_rule(wrong.or_else(|| self.differs("rule", rule::edit::edit)))
     }
 }
 

@@ -9,7 +9,7 @@ use crate::ffi;
 use crate::fill::cases::{Case, KINDS};
 use crate::fill::{called, fixed, unlike_the_original, Fill};
 use crate::meshes::bytes as number_bytes;
-use crate::original;
+use crate::original::{self, Answered, Verdict};
 use crate::rule;
 use crate::rule::fill::numbers;
 
@@ -70,7 +70,8 @@ impl Block for Stored {
         let out: Vec<u8> = case.out_before().collect();
         let (answer, mut after) = by_rule(&case, &out);
         if answer >= 64 {
-            if let Some(Ok(file)) = original::filled(&case.body()) {
+            let filled = original::filled(&case.body()).map(Answered::taken);
+            if let Some(Ok(file)) = filled {
                 after[..file.len()].copy_from_slice(&file);
             }
         }
@@ -134,10 +135,10 @@ impl Block for Stored {
         })
     }
 
-    fn wrong(&self) -> Option<String> {
-        self.unlike_the_library(ffi::fill)
-            .or_else(|| self.unlike_the_rule())
-            .or_else(|| unlike_the_original(&self.case.body(), self.answer, &self.out[1]))
+    fn verdict(&self) -> Verdict {
+        let wrong = self.unlike_the_library(ffi::fill);
+        Verdict::by_rule(wrong.or_else(|| self.unlike_the_rule()))
+            .and(|| unlike_the_original(&self.case.body(), self.answer, &self.out[1]))
     }
 }
 

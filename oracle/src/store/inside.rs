@@ -8,6 +8,7 @@ use crate::ffi;
 use crate::inside::cases::{Case, Cloud, CLOUDS, KINDS};
 use crate::inside::{called, small_fixed, unlike_the_original, Inside};
 use crate::meshes::bytes as number_bytes;
+use crate::original::Verdict;
 use crate::rule;
 use crate::rule::fill::{numbers, TRIANGLE};
 
@@ -105,10 +106,11 @@ impl Block for Stored {
         })
     }
 
-    fn wrong(&self) -> Option<String> {
-        self.unlike_the_library(ffi::inside)
-            .or_else(|| unlike("rule", &self.answer, &by_rule(&self.case), true))
-            .or_else(|| unlike_the_original(&self.case, self.answer))
+    fn verdict(&self) -> Verdict {
+        let wrong = self.unlike_the_library(ffi::inside);
+        let by_rule = || unlike("rule", &self.answer, &by_rule(&self.case), true);
+        Verdict::by_rule(wrong.or_else(by_rule))
+            .and(|| unlike_the_original(&self.case, self.answer))
     }
 }
 

@@ -9,6 +9,7 @@ use crate::ffi;
 use crate::lent::Lent;
 use crate::open::cases::{Case, KINDS};
 use crate::open::{journal_word, out_byte};
+use crate::original::Verdict;
 use crate::rule;
 
 const CASES: usize = 400;
@@ -106,9 +107,9 @@ impl Block for Stored {
         })
     }
 
-    fn wrong(&self) -> Option<String> {
-        self.differs("library", Self::by_library)
-            .or_else(|| self.differs("rule", Self::by_rule))
+    fn verdict(&self) -> Verdict {
+        let wrong = self.differs("library", Self::by_library);
+        Verdict::by_rule(wrong.or_else(|| self.differs("rule", Self::by_rule)))
     }
 }
 

@@ -7,7 +7,7 @@ use super::blocks;
 use crate::ffi;
 use crate::meshes::{anywhere, between, bytes as number_bytes, mesh_bytes, wall, Slivers};
 use crate::open::cases::{one_in, pick, up_to};
-use crate::original;
+use crate::original::{self, Answered, Verdict};
 use crate::report::Found;
 use crate::rng::Rng;
 use crate::rule;
@@ -342,13 +342,13 @@ fn by_rule(ray: &Ray) -> f64 {
     crossing(ray.point, ray.triangle).unwrap_or(MISS)
 }
 
-fn by_original(ray: &Ray) -> Option<f64> {
+fn by_original(ray: &Ray) -> Option<Answered<f64>> {
     original::ray(ray.point, &ray.triangle)
 }
 
 /// The ray and its distance: the original's, the rule's where it is not at hand.
 fn block(ray: &Ray) -> Vec<u8> {
-    let distance = by_original(ray).unwrap_or_else(|| by_rule(ray));
+    let distance = by_original(ray).map_or_else(|| by_rule(ray), Answered::taken);
     let mut numbers = ray.numbers();
     numbers.push(distance);
     number_bytes(&numbers)
@@ -380,17 +380,18 @@ fn unlike_the_library(ray: &Ray) -> Option<String> {
 }
 
 /// What is wrong with a block, by the rule, by the original or by the library.
-fn wrong(block: &[u8]) -> Option<String> {
+fn verdict(block: &[u8]) -> Verdict {
     let (ray, stored) = read(block);
-    differs("rule", by_rule(&ray), stored)
-        .or_else(|| by_original(&ray).and_then(|distance| differs("original", distance, stored)))
-        .or_else(|| unlike_the_library(&ray))
-        .map(|what| format!("{:?}: {what}", ray.numbers()))
+    let wrong = differs("rule", by_rule(&ray), stored);
+    let told = |distance| differs("original", distance, stored);
+    Verdict::by_rule(wrong.or_else(|| unlike_the_library(&ray)))
+        .and(|| Verdict::by_original(by_original(&ray), told))
+        .told(|what| format!("{:?}: {what}", ray.numbers()))
 }
 
 /// Holds the rule, the original and the library to the stored answers.
 pub(super) fn replay(stored: &[u8]) -> Found {
-    blocks::replay_by(BLOCK, stored, wrong)
+    blocks::replay_by(BLOCK, stored, verdict)
 }
 
 #[cfg(test)]
@@ -490,6 +491,6 @@ mod tests {
         assert_eq!(replay(&bytes).mismatches, 1);
         bytes.pop();
         let found = replay(&bytes);
-        assert_eq!((found.cases, found.mismatches), (1999, 2));
+        assert_eq!((found.cases.all(), found.mismatches), (1999, 2));
     }
 }

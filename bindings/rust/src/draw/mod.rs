@@ -4,7 +4,7 @@ mod font;
 mod png;
 mod svg;
 
-use crate::Model;
+use crate::{ffi, Model};
 use std::fmt;
 
 /// Which mass is drawn.
@@ -68,6 +68,10 @@ pub struct Difference {
 /// # Errors
 /// [`NotComparable`] where grids or boxes differ.
 pub fn difference(before: &Model, now: &Model) -> Result<Difference, NotComparable> {
+    ffi::in_default_mode(|| differences(before, now))
+}
+
+fn differences(before: &Model, now: &Model) -> Result<Difference, NotComparable> {
     if before.grid() != now.grid() || before.bounds() != now.bounds() {
         return Err(NotComparable);
     }

@@ -1,0 +1,312 @@
+//! Calls in other floating-point modes, and with NULL for what is empty.
+
+use super::mode::{in_default_mode, load, read};
+use super::raw;
+use crate::check::{check_points, check_tree};
+use crate::text::{parse_kernels, parse_obj, Edit};
+use crate::{
+    build_mascon, draw, is_inside, narrow, parse_mascon_bytes, shapes, Kernel, Model, Tree,
+    Triangle,
+};
+use std::hint::black_box;
+use std::panic::catch_unwind;
+use std::ptr::{null, null_mut};
+
+const TINY_IS_ZERO: u32 = 0x9fc0;
+const UP: u32 = 0x5f80;
+const DOWN: u32 = 0x3f80;
+const TO_ZERO: u32 = 0x7f80;
+const MODES: [u32; 4] = [TINY_IS_ZERO, UP, DOWN, TO_ZERO];
+/// An inexact result traps; whatever is raised traps, to zero, with both bits.
+const TRAPPING: [u32; 2] = [0x0f80, 0xe040];
+
+struct Restored(u32);
+
+impl Drop for Restored {
+    fn drop(&mut self) {
+        load(self.0);
+    }
+}
+
+/// What work gives in a mode, which it leaves as it is.
+fn in_mode<T>(mode: u32, work: impl FnOnce() -> T) -> T {
+    let before = Restored(read());
+    load(mode);
+    let answer = black_box(black_box(work)());
+    let after = read();
+    drop(before);
+    assert_eq!(after & 0xffc0, mode, "the caller's mode");
+    answer
+}
+
+/// No points, and a box from 0 to the least binary32 above it.
+fn tiny() -> Vec<u8> {
+    shapes::empty_file(1, [0.0; 3], [f32::from_bits(1); 3])
+}
+
+/// Masses whose sums in binary64 are not exact, and lie beside a tie of binary32: up changes the first, down and to zero the second.
+fn beside_ties() -> Model {
+    let mut model = Model::open(&shapes::empty_file(3, [0.0; 3], [1.0; 3])).unwrap();
+    let power = |exponent: i32| 2.0_f32.powi(exponent);
+    let cauchy = [1.0, power(-24), power(-60)];
+    let elliptic = [1.0 + power(-23), power(-24), -power(-60)];
+    for (x, (cauchy, elliptic)) in (0..).zip(cauchy.into_iter().zip(elliptic)) {
+        model.put(x, 0, 0, cauchy, elliptic).unwrap();
+    }
+    model
+}
+
+fn small_body() -> Vec<u8> {
+    let (mesh, kernels) = shapes::contact_binary(6);
+    build_mascon(&mesh, &kernels, &kernels[..1], 4.2e11, 1190.0, 10).unwrap()
+}
+
+#[test]
+fn a_box_of_the_least_width_is_accepted_in_any_mode() {
+    let file = tiny();
+    for mode in MODES.into_iter().chain(TRAPPING) {
+        let tree = in_mode(mode, || Tree::build(&file)).unwrap();
+        assert_eq!((tree.as_bytes().len(), tree.node_count()), (144, 1));
+        let mut model = in_mode(mode, || Model::open(&file)).unwrap();
+        in_mode(mode, || model.put(0, 0, 0, 1.0, 1e-45)).unwrap();
+        assert_eq!(in_mode(mode, || model.tree()), model.tree());
+        in_mode(mode, || model.remove(0, 0, 0)).unwrap();
+        in_mode(mode, || model.undo()).unwrap();
+        in_mode(mode, || model.undo()).unwrap();
+        assert_eq!(model.as_bytes(), file);
+        let judged = in_mode(mode, || parse_mascon_bytes(&file, "file"));
+        assert_eq!(judged.unwrap().as_bytes(), file);
+        assert!(in_mode(mode, || check_points(&file, 1)).is_clean());
+        assert!(in_mode(mode, || check_tree(tree.as_bytes(), 1)).is_clean());
+    }
+}
+
+#[test]
+fn trees_are_the_same_in_any_mode() {
+    let model = beside_ties();
+    let tree = model.tree();
+    let root = tree.root();
+    let sums = (root.cauchy_mass, root.elliptic_mass);
+    assert_eq!(sums, (1.0, 1.0 + 2.0_f32.powi(-22)));
+    let body = Model::open(&small_body()).unwrap();
+    let whole = body.tree();
+    for mode in MODES.into_iter().chain(TRAPPING) {
+        assert_eq!(in_mode(mode, || model.tree()), tree);
+        assert_eq!(in_mode(mode, || body.tree()), whole);
+        let bytes = whole.as_bytes().to_vec();
+        assert_eq!(in_mode(mode, || Tree::open(bytes)).unwrap(), whole);
+    }
+}
+
+#[test]
+fn fills_are_the_same_in_any_mode() {
+    let (mesh, kernels) = shapes::contact_binary(6);
+    let file = small_body();
+    let places = [[-300.0, 7.0, 3.0], [420.0, 1e-320, 0.0], [0.0, 400.0, 0.0]];
+    let inside = places.map(|place| is_inside(&mesh, place));
+    assert_eq!(inside, [Ok(true), Ok(true), Ok(false)]);
+    for mode in MODES.into_iter().chain(TRAPPING) {
+        let again = in_mode(mode, || {
+            build_mascon(&mesh, &kernels, &kernels[..1], 4.2e11, 1190.0, 10)
+        });
+        assert!(again.unwrap() == file, "{mode:#x}");
+        assert_eq!(
+            in_mode(mode, || places.map(|place| is_inside(&mesh, place))),
+            inside
+        );
+    }
+}
+
+#[test]
+fn narrowing_is_the_same_in_any_mode() {
+    let cases = [
+        (0x3ff0_0000_3000_0000, 0x3f80_0002), // 1 + 3 * 2^-24, a tie
+        (0x3fb9_9999_9999_999a, 0x3dcc_cccd), // 0.1
+        (0x36a0_0000_0000_0000, 0x0000_0001), // 2^-149
+        (0x3800_0000_0000_0000, 0x0040_0000), // 2^-127
+        (0x0000_0000_0000_0001, 0x0000_0000), // 2^-1074
+        (0x47ef_ffff_efff_ffff, 0x7f7f_ffff), // below 2^128 - 2^103
+    ];
+    for mode in MODES.into_iter().chain(TRAPPING) {
+        for (wide, short) in cases {
+            let narrowed = in_mode(mode, || narrow(f64::from_bits(wide)).to_bits());
+            assert_eq!(narrowed, short, "{wide:#x} in {mode:#x}");
+        }
+    }
+}
+
+#[test]
+fn texts_are_read_the_same_in_any_mode() {
+    let lists = "0.1 0.2 -0.3 1e-320 1e23\n";
+    let kernels = parse_kernels(lists).unwrap();
+    let mesh = "v 0.1 0 0\nv 1 0.3 0\nv 0 1 0.7\nf 1 2 3\n";
+    let triangles = parse_obj(mesh, 0.1).unwrap().triangles;
+    let edit = Edit::parse(&["put", "1", "2", "3", "0.1", "-0.3"]);
+    for mode in MODES {
+        assert_eq!(in_mode(mode, || parse_kernels(lists)).unwrap(), kernels);
+        assert!(in_mode(mode, || parse_kernels("0 0 0 -5e-324 1")).is_err());
+        let again = in_mode(mode, || parse_obj(mesh, 0.1)).unwrap();
+        assert_eq!(again.triangles, triangles);
+        let again = in_mode(mode, || Edit::parse(&["put", "1", "2", "3", "0.1", "-0.3"]));
+        assert_eq!(again, edit);
+    }
+}
+
+#[test]
+fn differences_are_seen_in_any_mode() {
+    let mut before = Model::open(&tiny()).unwrap();
+    before.put(0, 0, 0, 0.0, 0.0).unwrap();
+    let mut now = before.clone();
+    now.put(0, 0, 0, 0.0, 1e-45).unwrap();
+    for mode in MODES {
+        let difference = in_mode(mode, || draw::difference(&before, &now));
+        assert_eq!(difference.unwrap().changed, [[0, 0, 0]]);
+    }
+}
+
+#[test]
+fn a_panic_leaves_the_callers_mode() {
+    for mode in MODES {
+        let panicked = in_mode(mode, || {
+            catch_unwind(|| in_default_mode(|| std::panic::resume_unwind(Box::new(read()))))
+        });
+        let within: Result<(), _> = panicked;
+        let within = *within.unwrap_err().downcast::<u32>().unwrap();
+        assert_eq!(within & 0xffc0, 0x1f80);
+    }
+}
+
+/// In another mode the caller's flags, too, are as they were.
+#[test]
+fn flags_are_the_callers() {
+    let before = Restored(read());
+    load(UP | 0x21);
+    let _ = narrow(0.1);
+    let after = read();
+    drop(before);
+    assert_eq!(after, UP | 0x21);
+}
+
+fn raw_build(file: &[u8]) -> (u64, Vec<u8>) {
+    let mut scratch = [0; 1000];
+    let mut out = vec![0; 1 << 16];
+    let built = unsafe {
+        raw::mascon_build(
+            file.as_ptr(),
+            file.len(),
+            scratch.as_mut_ptr(),
+            scratch.len(),
+            out.as_mut_ptr(),
+            out.len(),
+        )
+    };
+    (built.answer, out)
+}
+
+/// A mesh filled at grid 8, with these kernels for both lists.
+fn raw_fill(mesh: &[Triangle], kernels: *const u8, kernels_length: usize) -> Vec<u8> {
+    let corners = mesh.iter().flat_map(|t| [t.a, t.b, t.c]).flatten();
+    let triangles: Vec<u8> = corners.flat_map(f64::to_le_bytes).collect();
+    let mut floats = vec![0.0; mesh.len()];
+    let mut out = vec![0; 64 + 16 * 256];
+    let length = unsafe {
+        raw::mascon_fill(
+            8,
+            triangles.as_ptr(),
+            triangles.len(),
+            kernels,
+            kernels_length,
+            kernels,
+            kernels_length,
+            1e9,
+            1.0,
+            floats.as_mut_ptr(),
+            floats.len(),
+            out.as_mut_ptr(),
+            out.len(),
+        )
+    };
+    out.truncate(length as usize);
+    out
+}
+
+/// The library alone answers otherwise in other modes, so that the tests above show something.
+#[test]
+fn without_the_default_mode_answers_differ() {
+    let file = tiny();
+    assert_eq!(raw_build(&file).0, 144);
+    assert_eq!(in_mode(TINY_IS_ZERO, || raw_build(&file)).0, 5);
+    let model = beside_ties();
+    let right = raw_build(model.as_bytes());
+    assert_eq!(right.1[..right.0 as usize], *model.tree().as_bytes());
+    for mode in [UP, DOWN, TO_ZERO] {
+        let other = in_mode(mode, || raw_build(model.as_bytes()));
+        assert_eq!(other.0, right.0);
+        assert!(other.1 != right.1, "{mode:#x}");
+    }
+    let (mesh, kernels) = shapes::contact_binary(6);
+    let [Kernel { c, sigma, w }, _] = kernels[..] else {
+        panic!("two kernels");
+    };
+    let bytes = [c[0], c[1], c[2], sigma, w].map(f64::to_le_bytes).concat();
+    let right = build_mascon(&mesh, &kernels[..1], &kernels[..1], 1e9, 1.0, 8).unwrap();
+    assert_eq!(raw_fill(&mesh, bytes.as_ptr(), bytes.len()), right);
+    for mode in [UP, DOWN, TO_ZERO] {
+        let other = in_mode(mode, || raw_fill(&mesh, bytes.as_ptr(), bytes.len()));
+        assert!(other != right, "{mode:#x}");
+    }
+}
+
+/// A pointer may be NULL where its length is 0.
+#[test]
+fn null_with_length_0() {
+    let answers = unsafe {
+        [
+            raw::mascon_inside(null(), 0, 0.0, 0.0, 0.0, null_mut(), 0),
+            raw::mascon_fill(
+                1,
+                null(),
+                0,
+                null(),
+                0,
+                null(),
+                0,
+                0.0,
+                0.0,
+                null_mut(),
+                0,
+                null_mut(),
+                0,
+            ),
+            raw::mascon_open(null(), 0, null_mut(), 0, null_mut(), 0, null_mut(), 0),
+            raw::mascon_put(null_mut(), 0, null_mut(), 0, 0, 0, 0, 0.0, 0.0),
+            raw::mascon_remove(null_mut(), 0, null_mut(), 0, 0, 0, 0),
+            raw::mascon_undo(null_mut(), 0, null_mut(), 0),
+            raw::mascon_build(null(), 0, null_mut(), 0, null_mut(), 0).answer,
+        ]
+    };
+    assert_eq!(answers, [17, 17, 1, 1, 1, 1, 1]);
+}
+
+/// The same of some buffers, with others that are accepted.
+#[test]
+fn null_beside_others() {
+    let mut file = tiny();
+    let mut word = [0_u32];
+    let (at, length, words) = (file.as_mut_ptr(), file.len(), word.as_mut_ptr());
+    let answers = unsafe {
+        [
+            raw::mascon_open(at, length, null_mut(), 0, null_mut(), 0, null_mut(), 0),
+            raw::mascon_open(at, length, words, 1, null_mut(), 0, null_mut(), 0),
+            raw::mascon_put(at, length, null_mut(), 0, 0, 0, 0, 0.0, 0.0),
+            raw::mascon_remove(at, length, null_mut(), 0, 0, 0, 0),
+            raw::mascon_undo(at, length, null_mut(), 0),
+            raw::mascon_build(at, length, null_mut(), 0, null_mut(), 0).answer,
+            raw::mascon_build(at, length, words, 1, null_mut(), 0).answer,
+        ]
+    };
+    assert_eq!(answers, [8, 9, 11, 11, 11, 8, 9]);
+    let (mesh, _) = shapes::contact_binary(6);
+    let right = build_mascon(&mesh, &[], &[], 1e9, 1.0, 8).unwrap();
+    assert_eq!(raw_fill(&mesh, null(), 0), right);
+}
