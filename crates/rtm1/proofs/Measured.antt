@@ -102,7 +102,7 @@ fit look g = by-boxes look g (λ b t. Fit t)
     (λ b w e. total-fits nothing (visit look g b) nothing-fits)
     (λ b w e two below above. (total-fits nothing (visit look g b) nothing-fits, below, above))
 
-behind : (f : List ℕ) (n : ℕ) (r : Frame) (b : Cells) (s : Sums) (q : Numbers) (rest : List ℕ) → Part f (64 + 80 * n) (nodeBytes r b s q ++ rest) → Part f (64 + 80 * (n + 1)) rest
+pub behind : (f : List ℕ) (n : ℕ) (r : Frame) (b : Cells) (s : Sums) (q : Numbers) (rest : List ℕ) → Part f (64 + 80 * n) (nodeBytes r b s q ++ rest) → Part f (64 + 80 * (n + 1)) rest
 behind f n r b s q rest p = part-right f (nodeBytes r b s q) rest (64 + 80 * n) (64 + 80 * (n + 1)) (omega (arith, length-node-bytes r b s q)) p
 
 in-front : (f : List ℕ) (n : ℕ) (r : Frame) (b : Cells) (s : Sums) (q : Numbers) (rest : List ℕ) → SumsFit s → Part f (64 + 80 * n) (nodeBytes r b s q ++ rest) → floatsAt f n ≡ floatWords (nodeFloats r b s)

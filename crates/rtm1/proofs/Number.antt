@@ -49,13 +49,20 @@ pub zero-back : numberOf 0 ≡ 0
 unfolding numberOf ofBits toUnsigned
 zero-back = refl
 
+zero-is : numberWord 0 ≡ 0
+unfolding numberWord floatWord narrow narrowFinite ofInt toBits
+zero-is = refl
+
 minus-back : numberOf minusOne ≡ 0
 unfolding numberOf ofBits toUnsigned
 minus-back = refl
 
--- no number but 0 is written as −1 is
-pub number-not-minus : (n : ℕ) → n ≤ 16777216 → numberWord n ≡ minusOne → n ≡ 0
-number-not-minus n h e = sym (number-back n h) ∙ ap numberOf e ∙ minus-back
+-- no number is written as −1 is
+pub number-not-minus : (n : ℕ) → n ≤ 16777216 → numberWord n ≡ minusOne → ⊥
+number-not-minus n h e =
+    let none : n ≡ 0 = sym (number-back n h) ∙ ap numberOf e ∙ minus-back in
+    let same : 0 ≡ minusOne = sym zero-is ∙ ap numberWord (sym none) ∙ e in
+    omega arith
 
 -- ---- links
 
@@ -68,11 +75,11 @@ unfolding linkOf
 link-none = refl
 
 -- −1 is none, any other link its place
-pub link-back : (b : Bool) (n : ℕ) → 0 < n → n ≤ 16777216 → linkOf (link b n) ≡ cond b (some n) none
+pub link-back : (b : Bool) (n : ℕ) → n ≤ 16777216 → linkOf (link b n) ≡ cond b (some n) none
 unfolding linkOf
-link-back false n p h = refl
-link-back true n p h = go (eqb (numberWord n) minusOne) refl
+link-back false n h = refl
+link-back true n h = go (eqb (numberWord n) minusOne) refl
   where
     go : (t : Bool) → eqb (numberWord n) minusOne ≡ t → cond t none (some (numberOf (numberWord n))) ≡ some n
-    go true e = absurd (omega (arith, number-not-minus n h (eqb-true (numberWord n) minusOne e)))
+    go true e = absurd (number-not-minus n h (eqb-true (numberWord n) minusOne e))
     go false e = ap some (number-back n h)

@@ -1,8 +1,8 @@
 -- What is read off a tree's bytes is the tree: its records with their links, counts and floats, and its order words. Assumes nothing.
 use Prim.Native.Nat.{ℕ, _+_, _*_, _≤_, _<_}
 use mathlib.Core.Path.{_≡_, sym, ap, ap₂, _∙_, subst}
-use mathlib.Core.Bool.{Bool}
-use mathlib.Core.Option.{Option, none}
+use mathlib.Core.Bool.{Bool, cond}
+use mathlib.Core.Option.{Option, none, some}
 use mathlib.Core.List.{List, _++_, Memᴰ·append-left, Memᴰ·append-right}
 use native.Mathlib.Nat.{add-zero, mod-eq-of-lt}
 use native.Mathlib.Omega.{arith}
@@ -14,15 +14,15 @@ use Rattle.rtm1.specs.declared.Frame.{Frame}
 use Rattle.rtm1.specs.declared.Sums.{Sums}
 use Rattle.rtm1.specs.declared.Numbers.{Numbers}
 use Rattle.rtm1.specs.Visit.{nothing}
-use Rattle.rtm1.specs.Tree.{Tree, empty, leaf, split, nodeCount, order, occupied}
+use Rattle.rtm1.specs.Tree.{Tree, empty, leaf, split, nodeCount, order}
 use Rattle.rtm1.specs.Node.{frameOf, nodeFloats, floatWords, nodeWords, recordWords, nodeBytes, numberWord, emptyNumbers, leafNumbers, splitNumbers, nodesBytes}
 use Rattle.rtm1.specs.Build.{headerWords, treeBytes}
 use Rattle.rtm1.specs.Read.{nodesIn, field, numbersAt, numberOf, linkOf, leftLink, rightLink, leafStart, leafCount, countAt, orderAt, orderWords, leafWords, wordsAt, Says, linkTo, Reads, Measures}
-use Rattle.rtm1.proofs.Node.{length-node-words, length-node-bytes}
+use Rattle.rtm1.proofs.Node.{length-node-words}
 use Rattle.rtm1.proofs.Bytes.{length-nodes, header-long}
 use Rattle.rtm1.proofs.Order.{Counted}
 use Rattle.rtm1.proofs.Number.{number-small, number-back, zero-back, link-small, link-none, link-back}
-use Rattle.rtm1.proofs.Measured.{Fit, measures}
+use Rattle.rtm1.proofs.Measured.{Fit, behind, measures}
 use Rattle.rtm1.proofs.Parts.{Part, AllWords, part-left, part-right, part-front, words-word, words-word-fits, words-back}
 
 pub record Small (q : Numbers) : Type 0 where
@@ -82,37 +82,51 @@ unfolding splitNumbers
 split-small lo l hi r count =
     omega (arith, link-small lo l, link-small hi r, number-small count)
 
+-- what each kind of record says, whatever its numbers are
+module _ (f : List ℕ) (n : ℕ) (r : Frame) (b : Cells) (s : Sums) where
+  empty-says : Part f (64 + 80 * n) (nodeBytes r b s emptyNumbers) → Says f n none none 0 0 0
+  unfolding emptyNumbers
+  empty-says p = says f n emptyNumbers none none 0 0 0 (record-numbers f n r b s emptyNumbers empty-small p) link-none link-none zero-back zero-back zero-back
+
+  leaf-says : (start points count k : ℕ) → Part f (64 + 80 * n) (nodeBytes r b s (leafNumbers start points count)) → start ≤ 16777216 → points ≤ 16777216
+      → count ≡ k → k ≤ 16777216 → Says f n none none start points k
+  unfolding leafNumbers
+  leaf-says start points count k p hs hp e hk =
+      says f n (leafNumbers start points count) none none start points k (record-numbers f n r b s (leafNumbers start points count) (leaf-small start points count) p)
+      link-none link-none (number-back start hs) (number-back points hp) (ap (λ (m : ℕ). numberOf (numberWord m)) e ∙ number-back k hk)
+
+  split-says : (lo : Bool) (left : ℕ) (hi : Bool) (right count k : ℕ) (rest : List ℕ)
+      → Part f (64 + 80 * n) (nodeBytes r b s (splitNumbers lo left hi right count) ++ rest) → left ≤ 16777216 → right ≤ 16777216 → count ≡ k → k ≤ 16777216
+      → Says f n (cond lo (some left) none) (cond hi (some right) none) 0 0 k
+  unfolding splitNumbers
+  split-says lo left hi right count k rest p hl hr e hk =
+      let q = splitNumbers lo left hi right count in
+      says f n q (cond lo (some left) none) (cond hi (some right) none) 0 0 k
+      (record-numbers f n r b s q (split-small lo left hi right count) (part-left f (nodeBytes r b s q) rest (64 + 80 * n) p))
+      (link-back lo left hl) (link-back hi right hr) zero-back zero-back (ap (λ (m : ℕ). numberOf (numberWord m)) e ∙ number-back k hk)
+
 -- ---- a tree whose records and order words stand in f is read there
 
 module _ (f : List ℕ) (r : Frame) where
   pub reads : (t : Tree) (n o : ℕ) → Counted t → n + nodeCount t ≤ 16777216 → o + length (order t) ≤ 16777216 → AllWords (order t)
       → Part f (64 + 80 * n) (nodesBytes r t n o) → Part f (orderAt f + 4 * o) (wordsBytes (order t)) → Reads f t n o
-  unfolding Reads Counted nodesBytes nodeCount order leafWords emptyNumbers leafNumbers splitNumbers
-  reads (empty b) n o c hn ho small p w =
-      says f n emptyNumbers none none 0 0 0 (record-numbers f n r b nothing emptyNumbers empty-small p) link-none link-none zero-back zero-back zero-back
+  unfolding Reads Counted nodesBytes nodeCount order leafWords
+  reads (empty b) n o c hn ho small p w = empty-says f n r b nothing p
   reads (leaf b s is) n o c hn ho small p w =
       let k = length is in
-      let e = record-numbers f n r b s (leafNumbers o k (s .count)) (leaf-small o k (s .count)) p in
-      let said : Says f n none none o k k =
-      says f n (leafNumbers o k (s .count)) none none o k k e link-none link-none (number-back o (omega arith)) (number-back k (omega arith)) (ap (λ (m : ℕ). numberOf (numberWord m)) c ∙ number-back k (omega arith)) in
+      let said : Says f n none none o k k = leaf-says f n r b s _ _ _ k p (omega arith) (omega arith) c (omega arith) in
       (said, ap₂ (λ (i m : ℕ). wordsAt f (orderAt f + 4 * i) m) (said .start-is) (said .points-are) ∙ words-back f is (orderAt f + 4 * o) w small)
   reads (split b s l h) n o c hn ho small p w =
       let a = n + 1 in
       let z = n + 1 + nodeCount l in
       let i = length (order l) in
       let j = length (order h) in
-      let q = splitNumbers (occupied l) a (occupied h) z (s .count) in
-      let root = nodeBytes r b s q in
       let low = nodesBytes r l a o in
       let high = nodesBytes r h z (o + i) in
-      let long : length root ≡ 80 = length-node-bytes r b s q in
       let nodes : length low ≡ 80 * nodeCount l = length-nodes r l a o in
       let both : length (order l ++ order h) ≡ i + j = length-append (order l) (order h) in
-      let e = record-numbers f n r b s q (split-small (occupied l) a (occupied h) z (s .count)) (part-left f root (low ++ high) (64 + 80 * n) p) in
-      let said : Says f n (linkTo l a) (linkTo h z) 0 0 (i + j) =
-      says f n q (linkTo l a) (linkTo h z) 0 0 (i + j) e (link-back (occupied l) a (omega arith) (omega arith)) (link-back (occupied h) z (omega arith) (omega arith)) zero-back zero-back
-      (ap (λ (m : ℕ). numberOf (numberWord m)) (c .0) ∙ number-back (i + j) (omega arith)) in
-      let children : Part f (64 + 80 * a) (low ++ high) = part-right f root (low ++ high) (64 + 80 * n) (64 + 80 * a) (omega arith) p in
+      let said : Says f n (linkTo l a) (linkTo h z) 0 0 (i + j) = split-says f n r b s _ _ _ _ _ (i + j) (low ++ high) p (omega arith) (omega arith) (c .0) (omega arith) in
+      let children : Part f (64 + 80 * a) (low ++ high) = behind f n r b s _ (low ++ high) p in
       let words : Part f (orderAt f + 4 * o) (wordsBytes (order l) ++ wordsBytes (order h)) =
       subst (λ (v : List ℕ). Part f (orderAt f + 4 * o) v) (words-append (order l) (order h)) w in (
         said,
