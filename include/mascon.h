@@ -14,9 +14,40 @@
 #include <stddef.h>
 #include <stdint.h>
 
+/* The version of these declarations, the Rust crate's. While the first number is 0, the second changes where a call is new, is declared otherwise
+   or answers otherwise. */
+#define MASCON_VERSION "0.1.0"
+#define MASCON_VERSION_MAJOR 0
+#define MASCON_VERSION_MINOR 1
+#define MASCON_VERSION_PATCH 0
+
 #ifdef __cplusplus
 extern "C" {
 #endif
+
+/* The causes of a refusal, by the numbers that the calls answer. All are below 64, every length written is 64 or more. */
+enum MasconCause {
+    MASCON_FILE_TOO_SHORT = 1, /* file under 64 bytes */
+    MASCON_NOT_POINT_FILE = 2, /* word 0 or version wrong */
+    MASCON_GRID_OUT_OF_RANGE = 3, /* grid is 0 or above 256 */
+    MASCON_RECORDS_MISSING = 4, /* fewer records than the header counts */
+    MASCON_BAD_HEADER_FLOAT = 5, /* a header float is not finite, or box min is not below max on an axis */
+    MASCON_COORDINATE_OUT_OF_GRID = 6, /* a coordinate at or above the grid */
+    MASCON_MASS_NOT_FINITE = 7, /* a mass that is not finite */
+    MASCON_SCRATCH_TOO_SHORT = 8, /* scratch too short */
+    MASCON_OUTPUT_TOO_SHORT = 9, /* output too short */
+    MASCON_NOT_WORKING_FORM = 10, /* not in working form */
+    MASCON_BAD_JOURNAL = 11, /* journal without words, with wrong top bits or count, or with entries missing */
+    MASCON_EMPTY_CELL = 12, /* the cell is empty */
+    MASCON_JOURNAL_FULL = 13, /* journal full */
+    MASCON_NO_ROOM = 14, /* no room for a new record */
+    MASCON_NOTHING_TO_UNDO = 15, /* nothing to undo */
+    MASCON_BAD_LAST_ENTRY = 16, /* an entry of the journal is malformed or does not fit its cell */
+    MASCON_OUT_OF_BOUNDS = 17, /* a list's length or a number outside its bounds */
+    MASCON_TOO_MANY_POINTS = 18, /* more inside points than half the cells, rounded up */
+    MASCON_FLAT_BOX = 19, /* box min is not below max after narrowing to binary32 */
+    MASCON_NOT_FINITE = 20 /* a float to be written is not finite */
+};
 
 /* The pattern of the binary32 nearest to x, ties to even: below 2^32. Infinity with x's sign from magnitude 2^128 - 2^103 up;
    a NaN gives 0x7fc00000. Every x has an answer. */

@@ -186,26 +186,6 @@ mod tests {
         fs::read_to_string(Path::new(FOLDER).join(format!("{PREFIX}{name}.txt"))).unwrap()
     }
 
-    /// The lines by which the original calls the bindings stand in their README: each part of that diff begins in `mod.rs` where it says.
-    #[test]
-    fn the_readme_changes_the_original() {
-        let readme = include_str!("../../bindings/rust/README.md");
-        let (_, diff) = readme.split_once("```diff\n").expect("a diff");
-        let (diff, _) = diff.split_once("```").expect("its end");
-        let original = original("mod.rs");
-        let lines: Vec<_> = original.lines().collect();
-        let mut parts = 0;
-        for part in diff.split("\n@@ -").skip(1) {
-            let (first, old) = part.split_once(',').expect("the old lines' place");
-            let first: usize = first.parse().unwrap();
-            let old = old.lines().skip(1).filter(|line| !line.starts_with('+'));
-            let old: Vec<_> = old.map(|line| line.get(1..).unwrap_or("")).collect();
-            assert_eq!(lines[first - 1..][..old.len()], old);
-            parts += 1;
-        }
-        assert_eq!(parts, 2);
-    }
-
     /// Nothing of the original is changed but the grid size.
     #[test]
     fn copies_are_the_original() {

@@ -6,14 +6,20 @@ set -euo pipefail
 crate=$(cd "$(dirname "${BASH_SOURCE[0]}")/.." && pwd)
 dir=${1:-$crate/target/demo}
 
-echo "Building the program; where the library is not proved yet, that takes some minutes."
+root=$(cd "$crate/../.." && pwd)
+archive=$root/target/staticlib/libmascon.a
+if [ -z "${MASCON_LIB_DIR:-}" ] && { [ ! -e "$archive" ] || [ -n "$(find "$root/crates" "$root/crates.txt" -newer "$archive" -print -quit)" ]; }; then
+    echo "Proving the library, a line a crate; some minutes, the first time."
+    (cd "$root" && rt staticlib mascon 2>&1) | sed -nu 's/^rt: //p'
+fi
+echo "Building the program."
 target=${CARGO_TARGET_DIR:-$crate/target}
 cargo build --release --quiet --offline --manifest-path "$crate/Cargo.toml" --target-dir "$target"
 program=$(cd "$target/release" && pwd)/mascon
 mkdir -p "$dir"
 cd "$dir"
 # What an earlier demo left there.
-rm -f binary.rym1 binary.rym1.journal before.rym1 copy.rym1 copy.rym1.journal binary.rtm1 before.png after.png after.svg
+rm -f binary.rym1 binary.rym1.journal before.rym1 copy.rym1 copy.rym1.journal binary.rtm1 before.png after.png after.svg layer.png
 
 # Prints a command and runs it.
 run() {
@@ -35,13 +41,15 @@ run draw binary.rym1 -o before.png --title "Contact binary, as filled"
 echo
 echo "== Edited: a list, then single cells; what is wrong is refused and changes nothing"
 run apply binary.rym1 edits.txt
-run put binary.rym1 16 15 16 2.5e8 2.5e8
+run put binary.rym1 18 18 16 2.5e8 2.5e8
 run remove binary.rym1 20 15 16
 printf '\n$ mascon remove binary.rym1 0 0 0\n'
 "$program" remove binary.rym1 0 0 0 && exit 1
 run log binary.rym1
 run draw binary.rym1 -o after.png --before before.rym1 --title "Contact binary, edited"
 run draw binary.rym1 -o after.svg --before before.rym1 --title "Contact binary, edited"
+run draw binary.rym1 -o layer.png --before before.rym1 --slice z=15 --title "Contact binary, the void"
+run get binary.rym1 9 14 15
 
 echo
 echo "== Undone, across runs: two steps, and all of it on a copy"
@@ -60,4 +68,4 @@ run check binary.rym1
 run check binary.rtm1
 
 echo
-echo "Pictures: $dir/before.png, $dir/after.png, $dir/after.svg"
+echo "Pictures: $dir/before.png, $dir/after.png, $dir/after.svg, $dir/layer.png"

@@ -1,8 +1,12 @@
-//! Point files and trees judged in full: every fault with its cause, record, field and byte.
+//! Point files, trees and the lists of a filling judged in full: every fault with its cause, record, field and byte.
 
 use crate::points::{float_at, grid_of, half_at, records_of, word_at, HEADER, POINTS_WORD, RECORD};
 use crate::tree::{NODE, TREE_WORD};
-use crate::{cells, ffi, Point, Refusal, MAX_GRID};
+use crate::{
+    cells, ffi, Kernel, Point, Refusal, Triangle, MAX_COORDINATE, MAX_GRID, MAX_KERNELS, MAX_SIGMA,
+    MAX_TRIANGLES, MAX_WEIGHT,
+};
+use std::collections::HashMap;
 use std::fmt;
 
 /// What a fault stands in.
@@ -18,18 +22,26 @@ pub enum Place {
     Node(usize),
     /// An order word of a tree, from 0.
     Order(usize),
+    /// A triangle of a mesh, from 0.
+    Triangle(usize),
+    /// An entry of the list of Cauchy kernels, from 0.
+    CauchyKernel(usize),
+    /// An entry of the list of elliptic kernels, from 0.
+    EllipticKernel(usize),
+    /// An argument of a filling as a whole: a list's length, or a number.
+    Argument,
 }
 
-/// A fault of a file.
-#[derive(Clone, Debug, PartialEq, Eq)]
+/// A fault of a file, or of what is to be filled.
+#[derive(Clone, PartialEq, Eq)]
 pub struct Fault {
-    /// The cause by which a point file is refused, none in a tree.
+    /// The cause by which a point file or a filling is refused, none in a tree.
     pub cause: Option<Refusal>,
     /// What it stands in.
     pub place: Place,
     /// The field's name.
     pub field: &'static str,
-    /// The field's first byte, from 0.
+    /// The field's first byte, from 0; of a list, as it is lent to the library.
     pub offset: usize,
     /// What is wrong.
     pub why: String,
@@ -46,8 +58,29 @@ impl fmt::Display for Fault {
             Place::Record(i) => write!(f, "record {i}")?,
             Place::Node(i) => write!(f, "node {i}")?,
             Place::Order(i) => write!(f, "order word {i}")?,
+            Place::Triangle(i) => write!(f, "triangle {i}")?,
+            Place::CauchyKernel(i) => write!(f, "Cauchy kernel {i}")?,
+            Place::EllipticKernel(i) => write!(f, "elliptic kernel {i}")?,
+            Place::Argument => write!(f, "argument")?,
         }
-        write!(f, ", {}, byte {}: {}", self.field, self.offset, self.why)
+        write!(f, ", {}", self.field)?;
+        let of_file = !matches!(
+            self.place,
+            Place::Triangle(_)
+                | Place::CauchyKernel(_)
+                | Place::EllipticKernel(_)
+                | Place::Argument
+        );
+        if of_file {
+            write!(f, ", byte {}", self.offset)?;
+        }
+        write!(f, ": {}", self.why)
+    }
+}
+
+impl fmt::Debug for Fault {
+    fn fmt(&self, f: &mut fmt::Formatter<'_>) -> fmt::Result {
+        fmt::Display::fmt(self, f)
     }
 }
 
@@ -84,6 +117,18 @@ impl Report {
         offset: usize,
         why: String,
     ) {
+        self.add_with(cause, place, field, offset, || why);
+    }
+
+    /// The same, with words that are made only where the fault is listed.
+    fn add_with(
+        &mut self,
+        cause: impl Into<Option<Refusal>>,
+        place: Place,
+        field: &'static str,
+        offset: usize,
+        why: impl FnOnce() -> String,
+    ) {
         self.total += 1;
         if self.faults.len() < self.most {
             self.faults.push(Fault {
@@ -91,7 +136,7 @@ impl Report {
                 place,
                 field,
                 offset,
-                why,
+                why: why(),
             });
         }
     }
@@ -216,36 +261,199 @@ fn record_faults(report: &mut Report, bytes: &[u8], record: usize) {
     }
 }
 
-/// What keeps an accepted point file from working form (cause 10 of the edits; opening it mends that), `most` listed.
+/// What keeps an accepted point file from working form (cause 10 of the edits; opening it mends that), `most` listed: records that do
+/// not ascend, every one that names a cell again, and pads. Bytes after the last record are no part of it, see [`trailing_bytes`].
 pub fn check_working_form(bytes: &[u8], most: usize) -> Report {
     let mut report = Report::new(most);
+    let mut named = Named::new(grid_of(bytes));
     let mut last = None;
     for i in 0..records_of(bytes) {
-        let at = HEADER + RECORD * i;
+        let (at, place) = (HEADER + RECORD * i, Place::Record(i));
         let Point { x, y, z, .. } = Point::at(bytes, i);
         // The order of cell numbers, wherever these lie in the grid.
         let cell = [z, y, x];
-        if last.is_some_and(|last| cell <= last) {
-            let why = if last == Some(cell) {
-                format!("cell ({x}, {y}, {z}) again: the later record counts")
-            } else {
-                format!("cell ({x}, {y}, {z}) stands after a later cell")
-            };
-            report.add(Refusal::NotWorkingForm, Place::Record(i), "x", at, why);
+        let first = named.first([x, y, z], i);
+        if first.is_some() || last.is_some_and(|last| cell < last) {
+            report.add_with(Refusal::NotWorkingForm, place, "x", at, || match first {
+                Some(first) => format!(
+                    "cell ({x}, {y}, {z}) again, first in record {first}: the later record counts"
+                ),
+                None => format!("cell ({x}, {y}, {z}) stands after a later cell"),
+            });
         }
         last = Some(cell);
         let pad = half_at(bytes, at + 6);
         if pad != 0 {
-            report.add(
-                Refusal::NotWorkingForm,
-                Place::Record(i),
-                "pad",
-                at + 6,
-                format!("{pad} is not 0"),
-            );
+            report.add_with(Refusal::NotWorkingForm, place, "pad", at + 6, || {
+                format!("{pad} is not 0")
+            });
         }
     }
     report
+}
+
+/// The record that first named each cell.
+struct Named {
+    grid: u32,
+    /// By cell number, one more than the record.
+    inside: Vec<u32>,
+    /// Of cells outside the grid, which a file that is refused may have.
+    outside: HashMap<[u32; 3], usize>,
+}
+
+impl Named {
+    fn new(grid: Option<u32>) -> Named {
+        let grid = grid.unwrap_or(0);
+        Named {
+            grid,
+            inside: vec![0; cells(grid)],
+            outside: HashMap::new(),
+        }
+    }
+
+    /// The earlier record that named the cell first; none where this one does.
+    fn first(&mut self, cell: [u32; 3], record: usize) -> Option<usize> {
+        if cell.iter().any(|&index| index >= self.grid) {
+            let first = *self.outside.entry(cell).or_insert(record);
+            return (first != record).then_some(first);
+        }
+        let [x, y, z] = cell;
+        let named = &mut self.inside[((z * self.grid + y) * self.grid + x) as usize];
+        if *named == 0 {
+            *named = record as u32 + 1;
+            return None;
+        }
+        Some(*named as usize - 1)
+    }
+}
+
+/// How many bytes follow the last record of a point file. No call reads them; opening the file drops them.
+///
+/// ```
+/// use mascon::{check::trailing_bytes, shapes};
+///
+/// let mut file = shapes::empty_file(4, [0.0; 3], [4.0; 3]);
+/// file.extend([7; 5]);
+/// assert_eq!(trailing_bytes(&file), 5);
+/// ```
+pub fn trailing_bytes(bytes: &[u8]) -> usize {
+    if bytes.len() < HEADER {
+        return 0;
+    }
+    let count = word_at(bytes, 12) as usize;
+    bytes.len().saturating_sub(HEADER + RECORD * count)
+}
+
+/// The faults by which a filling is refused (17), `most` of them listed: lengths of lists, and every number out of its bounds.
+///
+/// ```
+/// use mascon::{check::check_lists, shapes, Kernel};
+///
+/// let (mesh, mut kernels) = shapes::contact_binary(4);
+/// kernels[1].sigma = -0.5;
+/// let report = check_lists(&mesh, &kernels, &[], f64::NAN, 1190.0, 10);
+/// assert_eq!(report.faults[0].to_string(), "cause 17: Cauchy kernel 1, sigma: -0.5 is not 0 to 1e6");
+/// assert_eq!(report.faults[1].to_string(), "cause 17: argument, target mass: NaN is not a number");
+/// ```
+pub fn check_lists(
+    triangles: &[Triangle],
+    cauchy_kernels: &[Kernel],
+    elliptic_kernels: &[Kernel],
+    cauchy_target_mass: f64,
+    constant_density: f64,
+    most: usize,
+) -> Report {
+    ffi::in_default_mode(|| {
+        let mut report = Report::new(most);
+        let count = triangles.len();
+        if !(1..=MAX_TRIANGLES).contains(&count) {
+            let why = format!("{count}, a mesh has 1 to 2^20");
+            report.out_of_bounds(Place::Argument, "triangles", 0, why);
+        }
+        for (i, triangle) in triangles.iter().enumerate() {
+            triangle_faults(&mut report, i, triangle);
+        }
+        kernel_faults(
+            &mut report,
+            cauchy_kernels,
+            "Cauchy kernels",
+            Place::CauchyKernel,
+        );
+        kernel_faults(
+            &mut report,
+            elliptic_kernels,
+            "elliptic kernels",
+            Place::EllipticKernel,
+        );
+        for (name, value) in [
+            ("target mass", cauchy_target_mass),
+            ("density", constant_density),
+        ] {
+            report.up_to(MAX_WEIGHT, "1e30", Place::Argument, (name, 0), value);
+        }
+        report
+    })
+}
+
+impl Report {
+    fn out_of_bounds(&mut self, place: Place, field: &'static str, offset: usize, why: String) {
+        self.add(Refusal::OutOfBounds, place, field, offset, why);
+    }
+
+    /// A magnitude up to the limit.
+    fn up_to(
+        &mut self,
+        limit: f64,
+        words: &str,
+        place: Place,
+        (field, offset): (&'static str, usize),
+        value: f64,
+    ) {
+        if value.is_nan() {
+            self.out_of_bounds(place, field, offset, "NaN is not a number".into());
+        } else if value.abs() > limit {
+            let why = format!("{value:e} is above {words} in magnitude");
+            self.out_of_bounds(place, field, offset, why);
+        }
+    }
+}
+
+fn triangle_faults(report: &mut Report, i: usize, triangle: &Triangle) {
+    let names = [
+        ["a x", "a y", "a z"],
+        ["b x", "b y", "b z"],
+        ["c x", "c y", "c z"],
+    ];
+    let corners = [triangle.a, triangle.b, triangle.c];
+    let fields = names.as_flattened().iter().zip(corners.as_flattened());
+    for (k, (name, &x)) in fields.enumerate() {
+        let field = (*name, 72 * i + 8 * k);
+        report.up_to(MAX_COORDINATE, "1e6 m", Place::Triangle(i), field, x);
+    }
+}
+
+fn kernel_faults(
+    report: &mut Report,
+    kernels: &[Kernel],
+    name: &'static str,
+    place: impl Fn(usize) -> Place,
+) {
+    if kernels.len() > MAX_KERNELS {
+        let why = format!("{}, a list has up to 4,096", kernels.len());
+        report.out_of_bounds(Place::Argument, name, 0, why);
+    }
+    for (i, kernel) in kernels.iter().enumerate() {
+        for (k, name) in ["centre x", "centre y", "centre z"].into_iter().enumerate() {
+            let field = (name, 40 * i + 8 * k);
+            report.up_to(MAX_COORDINATE, "1e6 m", place(i), field, kernel.c[k]);
+        }
+        if !(0.0..=MAX_SIGMA).contains(&kernel.sigma) {
+            let why = format!("{} is not 0 to 1e6", kernel.sigma);
+            report.out_of_bounds(place(i), "sigma", 40 * i + 24, why);
+        }
+        let field = ("w", 40 * i + 32);
+        report.up_to(MAX_WEIGHT, "1e30", place(i), field, kernel.w);
+    }
 }
 
 /// A box of cells, ends excluded.
@@ -379,7 +587,7 @@ impl TreeWalk<'_> {
 /// use mascon::{check::check_tree, shapes, Model};
 ///
 /// let (mesh, kernels) = shapes::contact_binary(6);
-/// let tree = Model::fill(&mesh, &kernels, &kernels, 0.0, 1.0, 8)?.tree();
+/// let tree = Model::fill(&mesh, &kernels, &kernels, 0.0, 1.0, 8)?.tree()?;
 /// assert!(check_tree(tree.as_bytes(), 10).is_clean());
 /// # Ok::<(), mascon::Refusal>(())
 /// ```

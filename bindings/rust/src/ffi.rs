@@ -130,10 +130,7 @@ pub(crate) fn length(answer: u64) -> Result<usize, Refusal> {
 }
 
 fn refusal(answer: u64) -> Refusal {
-    let known = u8::try_from(answer).ok().and_then(Refusal::from_number);
-    known.unwrap_or_else(|| {
-        panic!("libmascon.a refused by {answer}, a cause that this crate does not know")
-    })
+    Refusal::from_number(answer).unwrap_or(Refusal::Unknown(answer))
 }
 
 pub(crate) fn narrow(x: f64) -> u32 {

@@ -77,7 +77,8 @@ pub fn is_inside(triangles: &[Triangle], point: [f64; 3]) -> Result<bool, Refusa
 /// Fills a mesh: the point file (RYM1) of the cells whose middle lies inside, with their masses by the two lists of kernels.
 ///
 /// As the original's `build_mascon`, with the grid as an argument. Where `cauchy_target_mass` is above 0, the masses of each list
-/// are scaled so that they add up to it. The time grows with cells × triangles.
+/// are scaled so that they add up to it. The time grows with cells × triangles. What 17 is about, [`check_lists`](crate::check::check_lists)
+/// says; 18, and cells that are judged wrongly where shells touch, [`mesh::Survey`](crate::mesh::Survey) foretells.
 ///
 /// ```
 /// use mascon::{build_mascon, shapes, Kernel, Model};

@@ -3,9 +3,11 @@
 #![deny(unsafe_code)]
 
 pub mod check;
+mod departures;
 pub mod draw;
 mod ffi;
 mod fill;
+pub mod mesh;
 mod model;
 mod model_file;
 mod points;
@@ -15,15 +17,17 @@ pub mod shapes;
 pub mod text;
 mod tree;
 
+pub use departures::Departures;
 pub use fill::{
     build_mascon, is_inside, narrow, Kernel, Triangle, MAX_COORDINATE, MAX_KERNELS, MAX_SIGMA,
     MAX_TRIANGLES, MAX_WEIGHT,
 };
-pub use model::{Change, Entry, Model, MAX_ENTRIES};
-pub use model_file::{journal_entries, journal_path, ModelFile, ModelFileError};
+pub use model::{ApplyError, Change, Entry, Model, MAX_ENTRIES};
+pub use model_file::{beside_model, journal_path, ModelFile, ModelFileError, Reading};
 pub use points::{build_mascon_tree, parse_mascon_bytes, Header, MasconSource, Point, Points};
 pub use refusal::{Labelled, Refusal};
-pub use save::write_file;
+pub use save::{held_at, write_file, Held};
+pub use text::Edit;
 pub use tree::{Node, Tree};
 
 /// The finest grid: cells on each axis.

@@ -1,8 +1,10 @@
 use crate::points::{grid_of, records_of, scratch, HEADER, RECORD};
-use crate::{cells, ffi, Header, Kernel, Point, Points, Refusal, Tree, Triangle};
+use crate::{
+    cells, ffi, model_file, Edit, Header, Kernel, ModelFile, ModelFileError, Point, Points,
+    Refusal, Tree, Triangle,
+};
 use std::collections::HashMap;
 use std::fmt;
-use std::io;
 use std::path::Path;
 
 /// How many edits a journal holds.
@@ -52,10 +54,77 @@ fn entry(words: &[u32], grid: u32) -> Result<Entry, Refusal> {
     })
 }
 
+/// What a cell holds: the Cauchy and the elliptic mass, none where it is empty.
+type Masses = Option<(f32, f32)>;
+
+/// The edit that leaves a cell so.
+fn edit_to([x, y, z]: [u32; 3], after: Masses) -> Edit {
+    match after {
+        Some((cauchy, elliptic)) => Edit::Put(x, y, z, cauchy, elliptic),
+        None => Edit::Remove(x, y, z),
+    }
+}
+
+/// An edit to be made again, in three words: of kind 2 with the masses to be put, or of kind 3, a remove.
+fn redo_words(number: u32, after: Masses) -> [u32; 3] {
+    match after {
+        Some((cauchy, elliptic)) => [2 << 30 | number, cauchy.to_bits(), elliptic.to_bits()],
+        None => [3 << 30 | number, 0, 0],
+    }
+}
+
+/// The cell of such an edit, and what it leaves there.
+fn redo_of(words: &[u32], grid: u32) -> Result<([u32; 3], Masses), Refusal> {
+    let entry = entry(words, grid)?;
+    match entry.change {
+        Change::Added => Err(Refusal::BadLastEntry),
+        Change::Replaced => Ok((entry.cell, entry.before)),
+        Change::Removed => Ok((entry.cell, None)),
+    }
+}
+
+/// Why a list of edits was not made: the first edit that was refused. The model is as it was.
+#[derive(Clone, Copy, PartialEq)]
+pub struct ApplyError {
+    /// The edit's place in the list, from 0.
+    pub place: usize,
+    /// The edit.
+    pub edit: Edit,
+    /// Why it was refused.
+    pub refusal: Refusal,
+}
+
+impl fmt::Display for ApplyError {
+    fn fmt(&self, f: &mut fmt::Formatter<'_>) -> fmt::Result {
+        let ApplyError {
+            place,
+            edit,
+            refusal,
+        } = self;
+        write!(
+            f,
+            "edit {place} of the list (from 0), {edit}: {refusal}; nothing is changed"
+        )
+    }
+}
+
+/// In words, as it is displayed.
+impl fmt::Debug for ApplyError {
+    fn fmt(&self, f: &mut fmt::Formatter<'_>) -> fmt::Result {
+        fmt::Display::fmt(self, f)
+    }
+}
+
+impl std::error::Error for ApplyError {
+    fn source(&self) -> Option<&(dyn std::error::Error + 'static)> {
+        Some(&self.refusal)
+    }
+}
+
 /// A model under edit: the point file in working form and the journal of its edits.
 ///
-/// It owns its buffers and grows them, so that the only limit met is [`MAX_ENTRIES`]. Each edit judges the whole file, about 8
-/// milliseconds for a million points.
+/// It owns its buffers and grows them, so that the only limit met is [`MAX_ENTRIES`]. Each edit judges the whole file; docs/BENCHMARKS.md
+/// has the time that takes.
 ///
 /// ```
 /// use mascon::{shapes, Model, Refusal};
@@ -71,6 +140,8 @@ fn entry(words: &[u32], grid: u32) -> Result<Entry, Refusal> {
 /// model.undo()?;
 /// model.undo()?;
 /// assert_eq!(model.undo(), Err(Refusal::NothingToUndo));
+/// model.redo()?;
+/// assert_eq!((model.len(), model.entries(), model.redoable()), (1, 1, 2));
 /// # Ok::<(), Refusal>(())
 /// ```
 #[derive(Clone)]
@@ -80,6 +151,8 @@ pub struct Model {
     length: usize,
     /// Word 0 is the entry count, then three words an entry, then room.
     journal: Vec<u32>,
+    /// Three words for each edit that can be redone, the next one last.
+    redo: Vec<u32>,
 }
 
 impl Model {
@@ -98,6 +171,7 @@ impl Model {
             file,
             length,
             journal,
+            redo: Vec::new(),
         })
     }
 
@@ -138,7 +212,7 @@ impl Model {
     /// Takes up a file in working form with the journal of its edits, as [`as_bytes`](Model::as_bytes) and
     /// [`journal`](Model::journal) gave them.
     ///
-    /// Every entry is held against the cells, from the last to the first, so that each can be undone.
+    /// Every entry is held against the cells, from the last to the first, so that each can be undone. Nothing can be redone at first.
     ///
     /// ```
     /// use mascon::{shapes, Model};
@@ -183,6 +257,27 @@ impl Model {
         Ok(model)
     }
 
+    /// The same with what can be redone; each edit is held against the cells, from the next to the last.
+    pub(crate) fn resume_with(
+        bytes: &[u8],
+        journal: &[u32],
+        redo: &[u32],
+    ) -> Result<Model, Refusal> {
+        let mut model = Model::resume(bytes, journal)?;
+        let mut occupied = HashMap::new();
+        for words in redo.rchunks(3) {
+            let (cell, after) = redo_of(words, model.grid())?;
+            let now = occupied
+                .insert(cell, after.is_some())
+                .unwrap_or_else(|| model.masses_at(cell).is_some());
+            if after.is_none() && !now {
+                return Err(Refusal::BadLastEntry);
+            }
+        }
+        model.redo = redo.to_vec();
+        Ok(model)
+    }
+
     /// Puts masses into a cell, over its point or as a new one.
     ///
     /// # Errors
@@ -195,7 +290,9 @@ impl Model {
         cauchy: f32,
         elliptic: f32,
     ) -> Result<(), Refusal> {
-        self.edit(|file, journal| ffi::put(file, journal, [x, y, z], cauchy, elliptic))
+        self.make([x, y, z], Some((cauchy, elliptic)))?;
+        self.redo.clear();
+        Ok(())
     }
 
     /// Removes the point of a cell.
@@ -203,15 +300,107 @@ impl Model {
     /// # Errors
     /// 6, 12; 13 at [`MAX_ENTRIES`], or where memory is short.
     pub fn remove(&mut self, x: u32, y: u32, z: u32) -> Result<(), Refusal> {
-        self.edit(|file, journal| ffi::remove(file, journal, [x, y, z]))
+        self.make([x, y, z], None)?;
+        self.redo.clear();
+        Ok(())
     }
 
-    /// Undoes the last put or remove.
+    /// Undoes the last put or remove. It can be redone until the next put or remove.
     ///
     /// # Errors
     /// 15; 14 where memory is short.
     pub fn undo(&mut self) -> Result<(), Refusal> {
-        self.edit(ffi::undo)
+        let last = self.history().next_back();
+        let words = last.map(|Entry { cell, .. }| {
+            let [x, y, z] = cell;
+            let number = (z * self.grid() + y) * self.grid() + x;
+            redo_words(number, self.masses_at(cell))
+        });
+        let more = words.map_or(0, |words| words.len());
+        self.redo.try_reserve(more).map_err(|_| Refusal::NoRoom)?;
+        self.edit(ffi::undo)?;
+        self.redo.extend(words.into_iter().flatten());
+        Ok(())
+    }
+
+    /// Makes the edit again that was undone last, and answers it; none where there is nothing to redo. A put or a remove drops what
+    /// could be redone.
+    ///
+    /// ```
+    /// use mascon::{shapes, Edit, Model};
+    ///
+    /// let mut model = Model::open(&shapes::empty_file(8, [-4.0; 3], [4.0; 3]))?;
+    /// model.put(1, 2, 3, 5.0e6, 4.0e6)?;
+    /// model.undo()?;
+    /// assert_eq!(model.redo()?, Some(Edit::Put(1, 2, 3, 5.0e6, 4.0e6)));
+    /// assert_eq!(model.redo()?, None);
+    /// # Ok::<(), mascon::Refusal>(())
+    /// ```
+    ///
+    /// # Errors
+    /// 13 or 14 where memory is short.
+    pub fn redo(&mut self) -> Result<Option<Edit>, Refusal> {
+        let Some(words) = self.redo.last_chunk::<3>() else {
+            return Ok(None);
+        };
+        let (cell, after) = redo_of(words, self.grid())?;
+        self.make(cell, after)?;
+        self.redo.truncate(self.redo.len() - 3);
+        Ok(Some(edit_to(cell, after)))
+    }
+
+    /// Makes a list of edits, whole or not at all.
+    ///
+    /// ```
+    /// use mascon::{shapes, Edit, Model, Refusal};
+    ///
+    /// let mut model = Model::open(&shapes::empty_file(8, [-4.0; 3], [4.0; 3]))?;
+    /// let list = [Edit::Put(1, 2, 3, 5.0e6, 4.0e6), Edit::Remove(0, 0, 0)];
+    /// let error = model.apply(&list).unwrap_err();
+    /// assert_eq!((error.place, error.edit, error.refusal), (1, list[1], Refusal::EmptyCell));
+    /// assert!(model.is_empty() && model.entries() == 0);
+    /// # Ok::<(), Refusal>(())
+    /// ```
+    ///
+    /// # Errors
+    /// The first edit that is refused; the model, its journal and what can be redone are then as they were.
+    pub fn apply(&mut self, edits: &[Edit]) -> Result<(), ApplyError> {
+        let refused = |place: usize, refusal| ApplyError {
+            place,
+            edit: edits[place],
+            refusal,
+        };
+        if edits.is_empty() {
+            return Ok(());
+        }
+        let before = self.copied().map_err(|refusal| refused(0, refusal))?;
+        for (place, edit) in edits.iter().enumerate() {
+            if let Err(refusal) = edit.apply(self) {
+                *self = before;
+                return Err(refused(place, refusal));
+            }
+        }
+        Ok(())
+    }
+
+    /// A copy, or a refusal where memory is short.
+    fn copied(&self) -> Result<Model, Refusal> {
+        Ok(Model {
+            file: copied(self.as_bytes())?,
+            length: self.length,
+            journal: copied(self.journal())?,
+            redo: copied(&self.redo)?,
+        })
+    }
+
+    /// Leaves a cell with these masses, or empty.
+    fn make(&mut self, cell: [u32; 3], after: Masses) -> Result<(), Refusal> {
+        match after {
+            Some((cauchy, elliptic)) => {
+                self.edit(|file, journal| ffi::put(file, journal, cell, cauchy, elliptic))
+            }
+            None => self.edit(|file, journal| ffi::remove(file, journal, cell)),
+        }
     }
 
     /// Makes a call, and again with more room where a buffer was too short for it.
@@ -262,14 +451,37 @@ impl Model {
             .map(move |words| entry(words, grid).expect("an entry that the library wrote"))
     }
 
+    /// The edits that can be undone, as they were made, the first one first: what each of [`history`](Model::history) has left in its
+    /// cell.
+    pub fn edits(&self) -> Vec<Edit> {
+        let mut now = HashMap::new();
+        let as_made = |Entry { cell, before, .. }| {
+            let after = now.insert(cell, before);
+            edit_to(cell, after.unwrap_or_else(|| self.masses_at(cell)))
+        };
+        let mut edits: Vec<Edit> = self.history().rev().map(as_made).collect();
+        edits.reverse();
+        edits
+    }
+
+    /// How many edits can be redone.
+    pub fn redoable(&self) -> usize {
+        self.redo.len() / 3
+    }
+
+    pub(crate) fn redo_words(&self) -> &[u32] {
+        &self.redo
+    }
+
     /// The journal's words: the entry count, then three words for each entry.
     pub fn journal(&self) -> &[u32] {
         &self.journal[..1 + 3 * self.entries()]
     }
 
-    /// Forgets the journal: the edits stay and can no longer be undone.
+    /// Forgets the journal: the edits stay and can no longer be undone, nor can any be redone.
     pub fn forget_entries(&mut self) {
         self.journal = vec![0];
+        self.redo = Vec::new();
     }
 
     /// The points, ascending by cell number.
@@ -277,8 +489,23 @@ impl Model {
         Points::of(self.as_bytes())
     }
 
+    /// The point at a place in the file, from 0, none past the last.
+    pub fn point(&self, place: usize) -> Option<Point> {
+        (place < self.len()).then(|| Point::at(&self.file, place))
+    }
+
+    fn masses_at(&self, [x, y, z]: [u32; 3]) -> Masses {
+        let point = self.get(x, y, z)?;
+        Some((point.cauchy_mass, point.elliptic_mass))
+    }
+
     /// The point of a cell, none where the cell is empty or outside the grid.
     pub fn get(&self, x: u32, y: u32, z: u32) -> Option<Point> {
+        self.place(x, y, z).and_then(|place| self.point(place))
+    }
+
+    /// The place in the file of a cell's point, from 0, none where the cell is empty or outside the grid.
+    pub fn place(&self, x: u32, y: u32, z: u32) -> Option<usize> {
         let grid = self.grid();
         if [x, y, z].iter().any(|&index| index >= grid) {
             return None;
@@ -287,10 +514,9 @@ impl Model {
         let (mut low, mut high) = (0, self.len());
         while low < high {
             let middle = low + (high - low) / 2;
-            let point = Point::at(&self.file, middle);
-            match point.cell(grid).cmp(&sought) {
+            match Point::at(&self.file, middle).cell(grid).cmp(&sought) {
                 std::cmp::Ordering::Less => low = middle + 1,
-                std::cmp::Ordering::Equal => return Some(point),
+                std::cmp::Ordering::Equal => return Some(middle),
                 std::cmp::Ordering::Greater => high = middle,
             }
         }
@@ -347,14 +573,17 @@ impl Model {
     /// for (x, y) in (0..3).flat_map(|y| (0..3).map(move |x| (x, y))) {
     ///     model.put(x, y, 0, 1.0, 1.0)?;
     /// }
-    /// let tree = model.tree();
+    /// let tree = model.tree()?;
     /// assert_eq!((tree.node_count(), tree.order_count(), tree.as_bytes().len()), (3, 9, 340));
     /// assert!(tree.order().eq([0, 3, 6, 1, 2, 4, 5, 7, 8]));
     /// assert_eq!(tree.root().cauchy_mass, 9.0);
     /// # Ok::<(), mascon::Refusal>(())
     /// ```
-    pub fn tree(&self) -> Tree {
-        Tree::build(self.as_bytes()).expect("a model in working form has a tree")
+    ///
+    /// # Errors
+    /// None today: a model in working form has a tree.
+    pub fn tree(&self) -> Result<Tree, Refusal> {
+        Tree::build(self.as_bytes())
     }
 
     /// The point file (RYM1), in working form.
@@ -366,10 +595,29 @@ impl Model {
     /// [`ModelFile`](crate::ModelFile) keeps both.
     ///
     /// # Errors
-    /// Those of the file system.
-    pub fn save(&self, path: impl AsRef<Path>) -> io::Result<()> {
-        crate::write_file(path, self.as_bytes())
+    /// Those of the file system; where another run is editing the model at `path`; where a journal or a save that was cut off stands
+    /// beside `path`, which would lose its model, or `path` is itself one.
+    pub fn save(&self, path: impl AsRef<Path>) -> Result<(), ModelFileError> {
+        model_file::save_alone(path.as_ref(), self)
     }
+
+    /// Writes the point file over whatever stands at `path`; a journal beside it goes, and its edits can no longer be undone. See
+    /// [`ModelFile::replace`].
+    ///
+    /// # Errors
+    /// Those of the file system, and where another run is editing the model at `path`.
+    pub fn save_over(&self, path: impl AsRef<Path>) -> Result<(), ModelFileError> {
+        ModelFile::replace(path, self)
+    }
+}
+
+/// A copy of a buffer, or a refusal where memory is short.
+fn copied<T: Copy>(buffer: &[T]) -> Result<Vec<T>, Refusal> {
+    let mut copy = Vec::new();
+    copy.try_reserve_exact(buffer.len())
+        .map_err(|_| Refusal::NoRoom)?;
+    copy.extend_from_slice(buffer);
+    Ok(copy)
 }
 
 /// Lengthens a buffer with zeros, or refuses where memory is short.

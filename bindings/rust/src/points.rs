@@ -118,16 +118,26 @@ impl Header {
         [middle(0, x), middle(1, y), middle(2, z)]
     }
 
-    /// The cell that a place in metres lies in, or none outside the box.
+    /// The cell that a place in metres lies in, or none outside the box, which it is held against in the box's binary32. A place on
+    /// a face between two cells lies in the upper one; the box's greatest faces belong to the last cells.
+    ///
+    /// ```
+    /// let header = mascon::Model::open(&mascon::shapes::empty_file(8, [-4.0; 3], [4.0; 3]))?.header();
+    /// assert_eq!(header.cell_at([-4.0, 0.0, 4.0]), Some([0, 4, 7]));
+    /// assert_eq!(header.cell_at([-4.1, 0.0, 4.0]), None);
+    /// # Ok::<(), mascon::Refusal>(())
+    /// ```
     pub fn cell_at(&self, place: [f64; 3]) -> Option<[u32; 3]> {
+        let last = self.grid.checked_sub(1)?;
         let cell = self.cell_size();
         let mut indices = [0; 3];
         for axis in 0..3 {
-            let scaled = (place[axis] - f64::from(self.min[axis])) / cell[axis];
-            if !(0.0..f64::from(self.grid)).contains(&scaled) {
+            let sides = self.min[axis]..=self.max[axis];
+            if !sides.contains(&(place[axis] as f32)) {
                 return None;
             }
-            indices[axis] = scaled as u32;
+            let scaled = (place[axis] - f64::from(self.min[axis])) / cell[axis];
+            indices[axis] = (scaled as u32).min(last);
         }
         Some(indices)
     }
@@ -154,6 +164,10 @@ impl Iterator for Points<'_> {
         self.records.next().map(|i| Point::at(self.bytes, i))
     }
 
+    fn nth(&mut self, n: usize) -> Option<Point> {
+        self.records.nth(n).map(|i| Point::at(self.bytes, i))
+    }
+
     fn size_hint(&self) -> (usize, Option<usize>) {
         self.records.size_hint()
     }
@@ -162,6 +176,10 @@ impl Iterator for Points<'_> {
 impl DoubleEndedIterator for Points<'_> {
     fn next_back(&mut self) -> Option<Point> {
         self.records.next_back().map(|i| Point::at(self.bytes, i))
+    }
+
+    fn nth_back(&mut self, n: usize) -> Option<Point> {
+        self.records.nth_back(n).map(|i| Point::at(self.bytes, i))
     }
 }
 
@@ -230,8 +248,11 @@ impl MasconSource {
     }
 
     /// The model of these points.
-    pub fn open(&self) -> crate::Model {
-        crate::Model::open(&self.bytes).expect("judged when it was parsed")
+    ///
+    /// # Errors
+    /// None today: it was judged when it was parsed.
+    pub fn open(&self) -> Result<crate::Model, Refusal> {
+        crate::Model::open(&self.bytes)
     }
 }
 
@@ -266,12 +287,15 @@ pub fn parse_mascon_bytes(bytes: &[u8], label: &str) -> Result<MasconSource, Lab
 /// ```
 /// let file = mascon::shapes::empty_file(1, [0.0; 3], [2.0; 3]);
 /// let source = mascon::parse_mascon_bytes(&file, "runtime Mascon source")?;
-/// let (tree, nodes, ordered) = mascon::build_mascon_tree(&source);
+/// let (tree, nodes, ordered) = mascon::build_mascon_tree(&source)?;
 /// assert_eq!((tree.len(), nodes, ordered), (144, 1, 0));
-/// # Ok::<(), mascon::Labelled>(())
+/// # Ok::<(), Box<dyn std::error::Error>>(())
 /// ```
-pub fn build_mascon_tree(source: &MasconSource) -> (Vec<u8>, usize, usize) {
-    let tree = crate::Tree::build(&source.bytes).expect("judged when it was parsed");
+///
+/// # Errors
+/// None today: it was judged when it was parsed.
+pub fn build_mascon_tree(source: &MasconSource) -> Result<(Vec<u8>, usize, usize), Refusal> {
+    let tree = crate::Tree::build(&source.bytes)?;
     let (nodes, order) = (tree.node_count(), tree.order_count());
-    (tree.into_bytes(), nodes, order)
+    Ok((tree.into_bytes(), nodes, order))
 }

@@ -15,25 +15,43 @@ macro_rules! refusals {
         /// assert_eq!(refusal.number(), 1);
         /// assert_eq!(refusal.to_string(), "refused 1: file under 64 bytes");
         /// ```
-        #[derive(Clone, Copy, Debug, PartialEq, Eq, PartialOrd, Ord, Hash)]
+        #[derive(Clone, Copy, PartialEq, Eq, PartialOrd, Ord, Hash)]
         #[non_exhaustive]
-        #[repr(u8)]
         pub enum Refusal {
             $(
                 #[doc = concat!($number, ": ", $cause, ".")]
                 $(#[$doc])*
-                $name = $number,
+                $name,
             )*
+            /// A number that this crate does not know: the library is a later one.
+            Unknown(u64),
         }
 
         impl Refusal {
             /// Every cause, ascending by number.
             pub const ALL: &'static [Refusal] = &[$(Refusal::$name),*];
 
+            /// The number that the rules give the cause.
+            pub const fn number(self) -> u64 {
+                match self {
+                    $(Refusal::$name => $number,)*
+                    Refusal::Unknown(number) => number,
+                }
+            }
+
+            /// The variant's name.
+            pub const fn name(self) -> &'static str {
+                match self {
+                    $(Refusal::$name => stringify!($name),)*
+                    Refusal::Unknown(_) => "Unknown",
+                }
+            }
+
             /// The cause in words.
             pub const fn words(self) -> &'static str {
                 match self {
                     $(Refusal::$name => $cause,)*
+                    Refusal::Unknown(_) => "a cause that this crate does not know",
                 }
             }
 
@@ -41,6 +59,7 @@ macro_rules! refusals {
             pub const fn advice(self) -> &'static str {
                 match self {
                     $(Refusal::$name => $advice,)*
+                    Refusal::Unknown(_) => "libmascon.a is later than this crate: take both from one source",
                 }
             }
         }
@@ -73,7 +92,7 @@ refusals! {
     BadJournal = 11, "journal without words, with wrong top bits or count, or with entries missing",
         "the journal is damaged: go on from the model without it, undo is lost";
     EmptyCell = 12, "the cell is empty",
-        "there is nothing to remove: look at the cell with `Model::get`, or at the model with `mascon draw`";
+        "there is nothing to remove: look at the cell with `mascon get` or `Model::get`, or at the model with `mascon draw`";
     /// Seen at 2^24 entries, or where memory is short.
     JournalFull = 13, "journal full",
         "2^24 edits stand in the journal: save the model and call `forget_entries`, or move the file MODEL.journal away";
@@ -87,7 +106,7 @@ refusals! {
     OutOfBounds = 17, "a list's length or a number outside its bounds",
         "1 to 2^20 triangles, up to 4,096 kernels a list; coordinates and centres up to 1e6 m, sigma 0 to 1e6, w, target mass and density up to 1e30, points up to 4e6 m, all of them numbers";
     TooManyPoints = 18, "more inside points than half the cells, rounded up",
-        "the body fills more than half of its box (a cuboid does): add a degenerate triangle that widens the box, and check that the mesh is closed";
+        "the body fills more than half of its box (a cuboid does): widen the box (`mascon fill --widen`, `mesh::widening`), and check that the mesh is closed";
     FlatBox = 19, "box min is not below max after narrowing to binary32",
         "the mesh is flat, or too small for its distance from the origin: move it to the origin";
     NotFinite = 20, "a float to be written is not finite",
@@ -95,11 +114,6 @@ refusals! {
 }
 
 impl Refusal {
-    /// The number that the rules give the cause.
-    pub const fn number(self) -> u8 {
-        self as u8
-    }
-
     /// The cause with this number.
     ///
     /// ```
@@ -108,8 +122,8 @@ impl Refusal {
     /// assert_eq!(Refusal::from_number(15), Some(Refusal::NothingToUndo));
     /// assert_eq!(Refusal::from_number(0), None);
     /// ```
-    pub const fn from_number(number: u8) -> Option<Refusal> {
-        if number == 0 || number as usize > Self::ALL.len() {
+    pub const fn from_number(number: u64) -> Option<Refusal> {
+        if number == 0 || number > Self::ALL.len() as u64 {
             None
         } else {
             Some(Self::ALL[number as usize - 1])
@@ -120,6 +134,13 @@ impl Refusal {
 impl fmt::Display for Refusal {
     fn fmt(&self, f: &mut fmt::Formatter<'_>) -> fmt::Result {
         write!(f, "refused {}: {}", self.number(), self.words())
+    }
+}
+
+/// The words, so that `fn main() -> Result<(), Refusal>` shows them.
+impl fmt::Debug for Refusal {
+    fn fmt(&self, f: &mut fmt::Formatter<'_>) -> fmt::Result {
+        fmt::Display::fmt(self, f)
     }
 }
 
@@ -138,7 +159,7 @@ impl From<Refusal> for String {
 /// let refused = mascon::parse_mascon_bytes(&[], "runtime Mascon source").unwrap_err();
 /// assert_eq!(refused.to_string(), "runtime Mascon source: refused 1: file under 64 bytes");
 /// ```
-#[derive(Clone, Debug, PartialEq, Eq)]
+#[derive(Clone, PartialEq, Eq)]
 pub struct Labelled {
     /// What was refused.
     pub label: String,
@@ -149,6 +170,12 @@ pub struct Labelled {
 impl fmt::Display for Labelled {
     fn fmt(&self, f: &mut fmt::Formatter<'_>) -> fmt::Result {
         write!(f, "{}: {}", self.label, self.refusal)
+    }
+}
+
+impl fmt::Debug for Labelled {
+    fn fmt(&self, f: &mut fmt::Formatter<'_>) -> fmt::Result {
+        fmt::Display::fmt(self, f)
     }
 }
 

@@ -1,12 +1,12 @@
 //! Meshes, kernels and edits as text, with the line of what is wrong.
 
 use crate::fill::{MAX_COORDINATE, MAX_KERNELS, MAX_SIGMA, MAX_TRIANGLES, MAX_WEIGHT};
-use crate::{ffi, Kernel, Model, Refusal, Triangle};
-use std::collections::{HashMap, HashSet};
+use crate::{ffi, mesh, Kernel, Model, Refusal, Triangle};
+use std::collections::HashMap;
 use std::fmt;
 
 /// What is wrong in a text, and in which line, from 1.
-#[derive(Clone, Debug, PartialEq, Eq)]
+#[derive(Clone, PartialEq, Eq)]
 pub struct LineError {
     /// The line, from 1; 0 of the text as a whole.
     pub line: usize,
@@ -20,6 +20,12 @@ impl fmt::Display for LineError {
             0 => write!(f, "{}", self.why),
             line => write!(f, "line {line}: {}", self.why),
         }
+    }
+}
+
+impl fmt::Debug for LineError {
+    fn fmt(&self, f: &mut fmt::Formatter<'_>) -> fmt::Result {
+        fmt::Display::fmt(self, f)
     }
 }
 
@@ -37,6 +43,56 @@ fn lines(text: &str) -> impl Iterator<Item = (usize, Vec<&str>)> {
         let line = line.split('#').next().unwrap_or_default();
         (at + 1, line.split_whitespace().collect())
     })
+}
+
+const ONLY: &str = "only OBJ meshes and lists of `x y z sigma w` are read";
+
+/// How files of other kinds begin.
+const BEGINNINGS: [(&[u8], &str); 7] = [
+    (b"glTF", "a GLB file (binary glTF)"),
+    (b"ply\n", "a PLY mesh"),
+    (b"ply\r", "a PLY mesh"),
+    (b"RYM1", "a point file (RYM1)"),
+    (b"RTM1", "a tree (RTM1)"),
+    (b"PK\x03\x04", "a ZIP archive"),
+    (b"\x1f\x8b", "compressed (gzip)"),
+];
+
+/// Judges whether a file can be an OBJ mesh or a list, by its bytes: not STL, GLB, glTF, PLY, TOML or another that is binary.
+///
+/// ```
+/// let error = mascon::text::judge_kind(b"solid ball\nfacet normal 0 0 1\n").unwrap_err();
+/// assert!(error.to_string().starts_with("this is an STL mesh (text): only OBJ meshes"));
+/// ```
+///
+/// # Errors
+/// What it is.
+pub fn judge_kind(bytes: &[u8]) -> Result<(), LineError> {
+    let begins = |(beginning, _): &&(&[u8], _)| bytes.starts_with(beginning);
+    let kind = if is_binary_stl(bytes) {
+        "a binary STL mesh"
+    } else if let Some((_, kind)) = BEGINNINGS.iter().find(begins) {
+        kind
+    } else if bytes.contains(&0) {
+        "binary, or text in UTF-16"
+    } else {
+        let text = String::from_utf8_lossy(&bytes[..bytes.len().min(1 << 16)]);
+        let first = lines(&text).find(|(_, words)| !words.is_empty());
+        match first.map(|(_, words)| words).as_deref() {
+            Some(["solid", ..]) => "an STL mesh (text)",
+            Some([first, ..]) if first.starts_with('{') => "JSON, as glTF is",
+            Some([first, ..]) if first.starts_with('[') || first.contains('=') => "TOML",
+            Some([_, second, ..]) if second.starts_with('=') => "TOML",
+            _ => return Ok(()),
+        }
+    };
+    wrong(0, format!("this is {kind}: {ONLY}"))
+}
+
+/// A header of 80 bytes, a count, and 50 bytes for each triangle.
+fn is_binary_stl(bytes: &[u8]) -> bool {
+    let count = bytes.get(80..84).and_then(|count| count.try_into().ok());
+    count.is_some_and(|count| 84 + 50 * u64::from(u32::from_le_bytes(count)) == bytes.len() as u64)
 }
 
 /// A mesh read from text.
@@ -85,11 +141,6 @@ fn number(line: usize, word: &str) -> Result<f64, LineError> {
 #[derive(Default)]
 struct Reader {
     corners: Vec<[f64; 3]>,
-    /// Each corner's place among the distinct ones, by `places`.
-    place_of: Vec<usize>,
-    places: HashMap<[u64; 3], usize>,
-    /// Edges that an odd number of triangles has.
-    open_edges: HashSet<[usize; 2]>,
     triangles: Vec<Triangle>,
 }
 
@@ -107,10 +158,6 @@ impl Reader {
                 return wrong(line, why);
             }
         }
-        let next = self.places.len();
-        // 0 and -0 are one place.
-        let place = self.places.entry(corner.map(|x| (x + 0.0).to_bits()));
-        self.place_of.push(*place.or_insert(next));
         self.corners.push(corner);
         Ok(())
     }
@@ -126,16 +173,8 @@ impl Reader {
             corners.push(index(line, word, self.corners.len())?);
         }
         for two in corners[1..].windows(2) {
-            let three = [corners[0], two[0], two[1]];
-            let [a, b, c] = three.map(|corner| self.corners[corner]);
+            let [a, b, c] = [corners[0], two[0], two[1]].map(|corner| self.corners[corner]);
             self.triangles.push(Triangle { a, b, c });
-            let [a, b, c] = three.map(|corner| self.place_of[corner]);
-            for (from, to) in [(a, b), (b, c), (c, a)] {
-                let edge = [from.min(to), from.max(to)];
-                if from != to && !self.open_edges.insert(edge) {
-                    self.open_edges.remove(&edge);
-                }
-            }
         }
         if self.triangles.len() > MAX_TRIANGLES {
             return wrong(line, "more than 2^20 triangles");
@@ -163,6 +202,7 @@ pub fn parse_obj(text: &str, scale: f64) -> Result<Mesh, LineError> {
 }
 
 fn obj(text: &str, scale: f64) -> Result<Mesh, LineError> {
+    judge_kind(text.as_bytes())?;
     let mut reader = Reader::default();
     let mut ignored: Vec<(String, usize)> = Vec::new();
     let mut lines = lines(text);
@@ -183,12 +223,14 @@ fn obj(text: &str, scale: f64) -> Result<Mesh, LineError> {
         }
     }
     if reader.triangles.is_empty() {
-        return wrong(0, "no face (`f` line) in it");
+        let corners = reader.corners.len();
+        let why = format!("no face (`f` line) in it, {corners} corners (`v` lines)");
+        return wrong(0, why);
     }
     Ok(Mesh {
+        open_edges: mesh::open_edges(&reader.triangles),
         triangles: reader.triangles,
         vertices: reader.corners.len(),
-        open_edges: reader.open_edges.len(),
         ignored,
     })
 }
@@ -249,6 +291,7 @@ pub fn parse_kernels(text: &str) -> Result<Vec<Kernel>, LineError> {
 }
 
 fn kernels(text: &str) -> Result<Vec<Kernel>, LineError> {
+    judge_kind(text.as_bytes())?;
     let mut kernels = Vec::new();
     for (line, words) in lines(text) {
         if words.is_empty() {
@@ -263,6 +306,10 @@ fn kernels(text: &str) -> Result<Vec<Kernel>, LineError> {
 }
 
 fn kernel(line: usize, words: &[&str]) -> Result<Kernel, LineError> {
+    if words.iter().any(|word| word.contains([',', ';'])) {
+        let why = format!("numbers with commas: {ONLY}, with spaces between the numbers");
+        return wrong(line, why);
+    }
     if words.len() != 5 {
         let why = format!(
             "a kernel is `x y z sigma w`, here are {} words",

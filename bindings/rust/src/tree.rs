@@ -70,7 +70,7 @@ impl Node {
 /// use mascon::{shapes, Model};
 ///
 /// let (mesh, kernels) = shapes::contact_binary(6);
-/// let tree = Model::fill(&mesh, &kernels, &kernels, 4.0e11, 1900.0, 12)?.tree();
+/// let tree = Model::fill(&mesh, &kernels, &kernels, 4.0e11, 1900.0, 12)?.tree()?;
 /// // Walk it: every point stands in one leaf.
 /// let mut open = vec![tree.root()];
 /// let mut points = 0;
@@ -231,8 +231,10 @@ impl Tree {
     /// Writes the file beside `path` and renames it, so that a failure leaves `path` as it was.
     ///
     /// # Errors
-    /// Those of the file system.
+    /// Those of the file system; where `path` is a point file, a journal or a save that was cut off ([`write_file`](crate::write_file)
+    /// writes over these too).
     pub fn save(&self, path: impl AsRef<Path>) -> io::Result<()> {
+        crate::save::spare(path.as_ref(), false)?;
         crate::write_file(path, &self.bytes)
     }
 }

@@ -2,9 +2,9 @@
 
 mod common;
 
-use common::{file, record, Rng};
+use common::{file, record, Folder, Rng};
 use mascon::check::{check_points, check_tree, check_working_form};
-use mascon::{parse_mascon_bytes, shapes, text, Model, Tree};
+use mascon::{parse_mascon_bytes, shapes, text, Model, ModelFile, Tree};
 
 /// Some bytes changed, some inserted, some cut off.
 fn mutated(rng: &mut Rng, good: &[u8]) -> Vec<u8> {
@@ -66,7 +66,8 @@ fn trees() {
     let (mesh, kernels) = shapes::contact_binary(4);
     let good = Model::fill(&mesh, &kernels, &kernels, 0.0, 1.0, 6)
         .unwrap()
-        .tree();
+        .tree()
+        .unwrap();
     for _ in 0..20_000 {
         let bytes = mutated(&mut rng, good.as_bytes());
         let clean = check_tree(&bytes, 5).is_clean();
@@ -109,6 +110,63 @@ fn journals() {
         }
     }
     assert!(accepted > 5_000, "{accepted}");
+}
+
+/// Journal files whose checksum is right and whose words are not.
+#[test]
+fn journal_files() {
+    let folder = Folder::new("journal_files");
+    let path = folder.file("m");
+    let mut rng = Rng(15);
+    Model::open(&file(4, &[(0, 1, 2, 1.0, 2.0)]))
+        .unwrap()
+        .save(&path)
+        .unwrap();
+    let mut model_file = ModelFile::load(&path).unwrap();
+    for i in 0..6 {
+        let _ = model_file.model.put(i % 4, i % 3, 1, 1.0, 2.0);
+        let _ = model_file.model.remove(i % 2, i % 3, 1);
+    }
+    for _ in 0..4 {
+        model_file.model.undo().unwrap();
+    }
+    model_file.save().unwrap();
+    let good = std::fs::read(mascon::journal_path(&path)).unwrap();
+    let hash = |bytes: &[u8]| {
+        bytes.iter().fold(0xcbf2_9ce4_8422_2325_u64, |hash, &byte| {
+            (hash ^ u64::from(byte)).wrapping_mul(0x100_0000_01b3)
+        })
+    };
+    let mut accepted = 0;
+    for _ in 0..5_000 {
+        let mut bytes = match rng.below(4) {
+            0 => mutated(&mut rng, &good[..good.len() - 8]),
+            _ => {
+                let mut bytes = good[..good.len() - 8].to_vec();
+                let at = 40 + rng.below(bytes.len() as u64 - 40) as usize;
+                bytes[at] ^= 1 << rng.below(8);
+                bytes
+            }
+        };
+        bytes.extend(hash(&bytes).to_le_bytes());
+        std::fs::write(mascon::journal_path(&path), &bytes).unwrap();
+        // Not where the reader would look again for a run that is saving.
+        if bytes.get(24..40) != Some(&good[24..40]) || bytes[..8] != good[..8] {
+            continue;
+        }
+        if let Ok(mut model) = ModelFile::read(&path).unwrap().into_model() {
+            accepted += 1;
+            // Whatever was accepted can be redone, and undone.
+            let (redo, undo) = (model.redoable(), model.entries());
+            for _ in 0..redo {
+                assert!(model.redo().unwrap().is_some());
+            }
+            for _ in 0..redo + undo {
+                model.undo().unwrap();
+            }
+        }
+    }
+    assert!(accepted > 1_000, "{accepted}");
 }
 
 #[test]
@@ -168,6 +226,7 @@ fn pictures() {
                         before,
                         mass,
                         title,
+                        slice: None,
                     };
                     let svg = picture.svg().unwrap();
                     assert!(svg.len() < 200_000 && !svg.contains("NaN") && !svg.contains("inf"));

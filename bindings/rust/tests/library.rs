@@ -27,7 +27,7 @@ fn contact_binary_from_mesh_to_tree() {
         assert_eq!(is_inside(&mesh, middle), Ok(true), "{point:?}");
         assert_eq!(model.get(point.x, point.y, point.z), Some(point));
     }
-    let tree = model.tree();
+    let tree = model.tree().unwrap();
     assert_eq!(tree.order_count(), model.len());
     assert!(check_tree(tree.as_bytes(), 10).is_clean());
     let mut order: Vec<u32> = tree.order().collect();
@@ -60,10 +60,10 @@ fn as_the_original_is_called() {
     let (mesh, kernels) = shapes::contact_binary(6);
     let points = build_mascon(&mesh, &kernels, &kernels, 1.0e11, 1190.0, 16).unwrap();
     let source = parse_mascon_bytes(&points, "runtime Mascon source").unwrap();
-    let (tree, nodes, ordered) = build_mascon_tree(&source);
-    let model = source.open();
+    let (tree, nodes, ordered) = build_mascon_tree(&source).unwrap();
+    let model = source.open().unwrap();
     assert_eq!(model.as_bytes(), points);
-    assert_eq!(model.tree().as_bytes(), tree);
+    assert_eq!(model.tree().unwrap().as_bytes(), tree);
     assert_eq!(tree.len(), 64 + 80 * nodes + 4 * ordered);
     assert_eq!(source.count(), ordered);
     assert!(source.points().eq(model.points()));
@@ -80,14 +80,14 @@ fn a_source_keeps_its_order() {
         ],
     );
     let source = parse_mascon_bytes(&bytes, "file").unwrap();
-    let (tree, nodes, ordered) = build_mascon_tree(&source);
+    let (tree, nodes, ordered) = build_mascon_tree(&source).unwrap();
     assert_eq!((nodes, ordered), (1, 2));
     let tree = Tree::open(tree).unwrap();
     assert!(tree.order().eq([1, 2]));
-    let model = source.open();
+    let model = source.open().unwrap();
     assert_eq!(model.len(), 2);
     assert_eq!(model.get(1, 0, 0).unwrap().cauchy_mass, 4.0);
-    assert!(model.tree().order().eq([0, 1]));
+    assert!(model.tree().unwrap().order().eq([0, 1]));
     assert_eq!(
         check_working_form(&bytes, 9).faults[0].place,
         Place::Record(1)
@@ -204,23 +204,7 @@ fn refusals_of_fill() {
     }];
     let kilometres = shapes::lumpy_sphere([0.0; 3], 9e5, 0.0, 4);
     assert_eq!(fill(&kilometres, &heavy, 0.0, 4), Err(Refusal::NotFinite));
-    let corner = |bits: usize| [0, 1, 2].map(|axis| (bits >> axis & 1) as f64 * 10.0);
-    let sides = [
-        [0, 4, 6, 2],
-        [1, 3, 7, 5],
-        [0, 1, 5, 4],
-        [2, 6, 7, 3],
-        [0, 2, 3, 1],
-        [4, 5, 7, 6],
-    ];
-    let mut cube: Vec<Triangle> = Vec::new();
-    for [a, b, c, d] in sides {
-        cube.extend([[a, b, c], [a, c, d]].map(|t: [usize; 3]| Triangle {
-            a: corner(t[0]),
-            b: corner(t[1]),
-            c: corner(t[2]),
-        }));
-    }
+    let mut cube = shapes::cuboid([0.0; 3], [10.0; 3]);
     assert_eq!(fill(&cube, &kernels, 0.0, 8), Err(Refusal::TooManyPoints));
     // The advice of 18: a triangle that is one point widens the box.
     cube.push(Triangle {
@@ -235,7 +219,7 @@ fn refusals_of_fill() {
 fn every_cause_has_number_and_words() {
     assert_eq!(Refusal::ALL.len(), 20);
     for (i, &refusal) in Refusal::ALL.iter().enumerate() {
-        assert_eq!(usize::from(refusal.number()), i + 1);
+        assert_eq!(refusal.number(), i as u64 + 1);
         assert_eq!(Refusal::from_number(refusal.number()), Some(refusal));
         assert_eq!(
             refusal.to_string(),
@@ -260,7 +244,7 @@ fn buffers_grow() {
         model.put(x, y, z, x as f32, y as f32).unwrap();
     }
     assert_eq!((model.len(), model.entries()), (4096, 4096));
-    assert_eq!(model.tree().node_count(), 1023);
+    assert_eq!(model.tree().unwrap().node_count(), 1023);
     for _ in &cells {
         model.undo().unwrap();
     }
@@ -276,7 +260,7 @@ fn buffers_grow() {
             points += 1;
         }
     }
-    let tree = model.tree();
+    let tree = model.tree().unwrap();
     assert_eq!((model.len(), tree.order_count()), (points, points));
     assert!(
         tree.node_count() > points / 2 + 256,
@@ -390,7 +374,7 @@ fn ten_thousand_edits() {
             assert!(points.eq(map.iter().map(|(&cell, &masses)| (cell, masses))));
             let again = Model::open(model.as_bytes()).unwrap();
             assert_eq!(again.as_bytes(), model.as_bytes());
-            assert!(check_tree(model.tree().as_bytes(), 1).is_clean());
+            assert!(check_tree(model.tree().unwrap().as_bytes(), 1).is_clean());
             let resumed = Model::resume(model.as_bytes(), model.journal()).unwrap();
             assert_eq!(resumed.journal(), model.journal());
             let history = model
@@ -465,10 +449,10 @@ fn save_and_load() {
         model.as_bytes()
     );
     let tree = folder.file("body.rtm1");
-    model.tree().save(&tree).unwrap();
+    model.tree().unwrap().save(&tree).unwrap();
     assert_eq!(
         Tree::open(std::fs::read(&tree).unwrap()).unwrap(),
-        model.tree()
+        model.tree().unwrap()
     );
     assert_eq!(folder.names(), ["body.rtm1", "body.rym1"]);
     assert!(model.save(folder.file("none").join("body.rym1")).is_err());
@@ -524,7 +508,8 @@ fn damaged_trees_are_seen() {
     let (mesh, kernels) = shapes::contact_binary(6);
     let tree = Model::fill(&mesh, &kernels, &kernels, 0.0, 1.0, 10)
         .unwrap()
-        .tree();
+        .tree()
+        .unwrap();
     let good = tree.as_bytes();
     let mut rng = Rng(3);
     for at in 0..good.len() {

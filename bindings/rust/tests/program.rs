@@ -2,42 +2,11 @@
 
 mod common;
 
-use common::{file, Folder};
+use common::{done, fails, file, mascon, Folder};
 use mascon::Model;
 use std::fs;
 use std::path::Path;
 use std::process::Command;
-
-struct Ran {
-    status: i32,
-    out: String,
-    err: String,
-}
-
-fn mascon(folder: &Folder, line: &str) -> Ran {
-    let run = Command::new(env!("CARGO_BIN_EXE_mascon"))
-        .args(line.split_whitespace())
-        .current_dir(folder.file(""))
-        .output()
-        .unwrap();
-    Ran {
-        status: run.status.code().unwrap(),
-        out: String::from_utf8(run.stdout).unwrap(),
-        err: String::from_utf8(run.stderr).unwrap(),
-    }
-}
-
-fn done(folder: &Folder, line: &str) -> String {
-    let ran = mascon(folder, line);
-    assert_eq!(ran.status, 0, "{line}: {}", ran.err);
-    ran.out
-}
-
-fn fails(folder: &Folder, line: &str, status: i32, words: &str) {
-    let ran = mascon(folder, line);
-    assert_eq!(ran.status, status, "{line}: {}{}", ran.out, ran.err);
-    assert!(ran.err.contains(words), "{line}: {}", ran.err);
-}
 
 fn bytes(folder: &Folder, name: &str) -> Vec<u8> {
     fs::read(folder.file(name)).unwrap()
@@ -76,6 +45,7 @@ fn from_mesh_to_tree() {
         Model::open(&bytes(&folder, "b.rym1"))
             .unwrap()
             .tree()
+            .unwrap()
             .as_bytes()
     );
     assert!(done(&folder, "info b.rtm1").contains("depth"));
@@ -208,10 +178,10 @@ fn a_journal_and_its_model_belong_together() {
     // A run that was cut off between its two renames is finished.
     set(&old.0, &new.1);
     fs::write(path("m.rym1.pending"), &new.0).unwrap();
-    let ran = mascon(&folder, "log m.rym1");
+    let ran = mascon(&folder, "undo m.rym1");
     assert_eq!(ran.status, 0);
-    assert!(ran.err.contains("its save is finished now") && ran.out.contains("2 edits to undo"));
-    assert_eq!(bytes(&folder, "m.rym1"), new.0);
+    assert!(ran.err.contains("its save is finished now") && ran.out.contains("1 edits to undo"));
+    assert_eq!(bytes(&folder, "m.rym1"), old.0);
     assert_eq!(folder.names(), ["m.rym1", "m.rym1.journal"]);
     // A run that was cut off before them leaves the old pair and what is pending.
     set(&old.0, &old.1);
@@ -536,19 +506,24 @@ fn nothing_to_save() {
     let shuffled = file(4, &[(3, 1, 2, 5.0, 6.0), (0, 1, 2, 5.0, 6.0)]);
     fs::write(folder.file("m"), &shuffled).unwrap();
     fs::write(folder.file("none"), "# nothing\n").unwrap();
-    for line in ["log m", "undo m --all", "apply m none"] {
+    fs::write(folder.file("n"), file(4, &[(0, 1, 2, 5.0, 6.0)])).unwrap();
+    for line in [
+        "log m",
+        "log n",
+        "undo n --all",
+        "redo n --all",
+        "apply n none",
+    ] {
         let ran = mascon(&folder, line);
         assert_eq!((ran.status, &*ran.err), (0, ""), "{line}");
     }
-    fails(&folder, "undo m --steps 0", 2, "nothing to do");
-    fails(&folder, "remove m 0 0 0", 1, "refused 12");
+    fails(&folder, "undo n --steps 0", 2, "nothing to do");
+    fails(&folder, "remove n 0 0 0", 1, "refused 12");
     assert_eq!(bytes(&folder, "m"), shuffled);
-    assert_eq!(folder.names(), ["m", "none"]);
-    let ran = mascon(&folder, "remove m 0 1 2");
-    assert!(ran.err.contains("is written so now"), "{}", ran.err);
+    assert_eq!(folder.names(), ["m", "n", "none"]);
 }
 
-/// What info and check say of a save that was cut off between its renames; only an edit or log finishes it.
+/// What info and check say of a save that was cut off between its renames; only an edit finishes it.
 #[test]
 fn a_save_that_was_cut_off() {
     let folder = Folder::new("cut_off");
@@ -558,11 +533,13 @@ fn a_save_that_was_cut_off() {
     let new = bytes(&folder, "m");
     fs::write(folder.file("m.pending"), &new).unwrap();
     fs::write(folder.file("m"), &old).unwrap();
-    assert!(done(&folder, "info m").contains("cut off while saving"));
-    let ran = mascon(&folder, "check m");
-    assert!(ran.status == 1 && ran.out.contains("cut off while saving"));
+    for line in ["info m", "check m", "log m"] {
+        let ran = mascon(&folder, line);
+        assert!(ran.status == 0 && ran.out.contains("1 edits to undo"));
+        assert!(ran.err.contains("a save was cut off"), "{}", ran.err);
+    }
     assert_eq!(bytes(&folder, "m"), old);
-    assert!(done(&folder, "log m").contains("1 edits to undo"));
+    fails(&folder, "remove m 0 0 0", 1, "its save is finished now");
     assert_eq!(bytes(&folder, "m"), new);
     assert_eq!(folder.names(), ["m", "m.journal"]);
     // Written anew, a model takes nothing over from a run that was cut off.
@@ -602,13 +579,49 @@ fn check_lists_every_cause() {
             "and not in working form:",
             "cause 10: record 0, pad, byte 70: 1 is not 0",
             "cause 10: record 1, x, byte 80: cell (0, 1, 2) stands after a later cell",
-            "cause 10: record 2, x, byte 96: cell (0, 1, 2) again: the later record counts",
+            "cause 10: record 2, x, byte 96: cell (0, 1, 2) again, first in record 1: the later record counts",
         ]
     );
     let ran = mascon(&folder, "check bad --most 1");
     assert!(ran.out.contains("... and 3 more"), "{}", ran.out);
     fs::write(folder.file("text"), "no point file\n".repeat(20)).unwrap();
     assert_eq!(mascon(&folder, "check text").out.lines().count(), 1);
+}
+
+/// What every command has: few words on request, help, the version, and clear words for standard input.
+#[test]
+fn common_to_all_commands() {
+    let folder = Folder::new("common");
+    fs::write(folder.file("m"), file(4, &[(0, 1, 2, 5.0, 6.0)])).unwrap();
+    for line in [
+        "open m -o w --quiet",
+        "put w 1 1 1 1 1 --quiet",
+        "--quiet undo w",
+        "undo w --quiet",
+        "build --quiet w -o t",
+        "draw w -o w.svg --quiet",
+        "example --quiet e --rings 4",
+    ] {
+        let ran = mascon(&folder, line);
+        let wrong = line.starts_with("--");
+        assert_eq!(ran.status, if wrong { 2 } else { 0 }, "{line}: {}", ran.err);
+        assert_eq!(ran.out, "", "{line}");
+    }
+    assert!(done(&folder, "info w --quiet").contains("grid"));
+    fails(&folder, "remove w 1 1 1 --quiet", 1, "refused 12");
+    assert!(done(&folder, "help help").contains("mascon help [COMMAND]"));
+    let version = concat!("mascon ", env!("CARGO_PKG_VERSION"), "\n");
+    assert_eq!(done(&folder, "-V"), version);
+    assert_eq!(done(&folder, "--version"), version);
+    for line in [
+        "put - 1 1 1 1 1",
+        "remove - 1 1 1",
+        "undo -",
+        "apply - m",
+        "log -",
+    ] {
+        fails(&folder, line, 2, "standard input (-) has none");
+    }
 }
 
 #[test]

@@ -7,15 +7,28 @@ use std::path::Path;
 
 pub(crate) struct Args {
     words: Vec<OsString>,
-    options: HashMap<String, OsString>,
+    options: HashMap<String, Vec<OsString>>,
     flags: Vec<String>,
 }
 
-/// What a command takes.
+/// Every command takes it: no report of what was done, and no progress.
+pub(crate) const QUIET: &str = "--quiet";
+
+/// What a command takes. An option takes one value, or those that are named after it, as in `--at X Y Z`, which then stand in
+/// place of the words of these names.
 pub(crate) struct Takes {
     pub(crate) words: &'static [&'static str],
     pub(crate) options: &'static [&'static str],
     pub(crate) flags: &'static [&'static str],
+}
+
+impl Takes {
+    /// The names of an option's values.
+    fn values(&self, name: &str) -> Option<Vec<&'static str>> {
+        let mut options = self.options.iter().map(|option| option.split(' '));
+        let option = options.find(|option| option.clone().next() == Some(name))?;
+        Some(option.skip(1).collect())
+    }
 }
 
 /// `-3.5` is a number and `-` the standard input, not an option.
@@ -50,18 +63,26 @@ impl Args {
                 _ => args.words.push(word.clone()),
             }
         }
-        if args.words.len() < takes.words.len() {
-            let missing = takes.words[args.words.len()..].join(" ");
+        let given: Vec<&str> = args
+            .options
+            .keys()
+            .filter_map(|name| takes.values(name))
+            .flatten()
+            .collect();
+        let mut words: Vec<&str> = takes.words.to_vec();
+        words.retain(|word| !given.contains(word));
+        if args.words.len() < words.len() {
+            let missing = words[args.words.len()..].join(" ");
             return Err(Failure::usage(format!("missing: {missing}")));
         }
-        if let Some(word) = args.words.get(takes.words.len()) {
+        if let Some(word) = args.words.get(words.len()) {
             let word = word.display();
             return Err(Failure::usage(format!("`{word}` is one word too many")));
         }
         Ok(args)
     }
 
-    /// `-o VALUE`, `--name VALUE`, `--name=VALUE` or a flag.
+    /// `-o VALUE`, `--name VALUE`, `--name=VALUE`, `--name VALUE VALUE VALUE` or a flag.
     fn option_or_flag<'a>(
         &mut self,
         word: &str,
@@ -72,17 +93,23 @@ impl Args {
             Some((name, value)) if name.starts_with("--") => (name, Some(value.into())),
             _ => (word, None),
         };
-        if takes.flags.contains(&name) && given.is_none() {
+        if (name == QUIET || takes.flags.contains(&name)) && given.is_none() {
             self.flags.push(name.to_string());
             return Ok(());
         }
-        if !takes.options.contains(&name) {
+        let Some(names) = takes.values(name) else {
             return Err(Failure::usage(format!("no option {word} here")));
-        }
-        let Some(value) = given.or_else(|| rest.next().cloned()) else {
-            return Err(Failure::usage(format!("{name} takes a value")));
         };
-        match self.options.insert(name.to_string(), value) {
+        let all = given.into_iter().chain(rest.cloned());
+        let values: Vec<OsString> = all.take(names.len().max(1)).collect();
+        if values.len() < names.len().max(1) {
+            let takes = match names.len() {
+                0 => "a value".to_string(),
+                count => format!("{count} values, {}", names.join(" ")),
+            };
+            return Err(Failure::usage(format!("{name} takes {takes}")));
+        }
+        match self.options.insert(name.to_string(), values) {
             Some(_) => Err(Failure::usage(format!("{name} is given twice"))),
             None => Ok(()),
         }
@@ -104,13 +131,14 @@ impl Args {
     }
 
     pub(crate) fn option(&self, name: &str) -> Result<Option<&str>, Failure> {
-        let value = self.options.get(name);
+        let value = self.options.get(name).and_then(|values| values.first());
         value.map(|value| text(name, value)).transpose()
     }
 
     /// An option that names a file.
     pub(crate) fn option_path(&self, name: &str) -> Option<&Path> {
-        self.options.get(name).map(Path::new)
+        let value = self.options.get(name).and_then(|values| values.first());
+        value.map(Path::new)
     }
 
     /// An option's number, or the default.
@@ -121,9 +149,27 @@ impl Args {
     ) -> Result<T, Failure> {
         match self.option(name)? {
             None => Ok(default),
-            Some(value) => value.parse().map_err(|_| {
-                Failure::usage(format!("{name}: `{value}` is not a number that fits"))
-            }),
+            Some(value) => parsed(name, value),
         }
     }
+
+    /// The numbers of an option with several values.
+    pub(crate) fn numbers<T: std::str::FromStr, const N: usize>(
+        &self,
+        name: &str,
+    ) -> Result<Option<[T; N]>, Failure> {
+        let Some(values) = self.options.get(name) else {
+            return Ok(None);
+        };
+        let numbers = values
+            .iter()
+            .map(|value| parsed(name, text(name, value)?))
+            .collect::<Result<Vec<T>, Failure>>()?;
+        Ok(numbers.try_into().ok())
+    }
+}
+
+fn parsed<T: std::str::FromStr>(name: &str, value: &str) -> Result<T, Failure> {
+    let wrong = |_| Failure::usage(format!("{name}: `{value}` is not a number that fits"));
+    value.parse().map_err(wrong)
 }

@@ -1,26 +1,33 @@
-//! The commands open, put, remove, undo, apply, log and build.
+//! The commands open, put, remove, undo, redo, apply, log and build.
 
 use super::args::Args;
+use super::list::cell_at;
 use super::progress::Progress;
-use super::{output, print, read, read_text, say, shown, tell, write, write_model, Failure};
+use super::{
+    output, output_apart, print, read_model, read_text, reading, say, shown, tell, write,
+    write_model, Failure,
+};
 use mascon::text::{parse_edits, Edit};
-use mascon::{Change, Entry, Model, ModelFile, Tree};
+use mascon::{Departures, Entry, Model, ModelFile, Tree};
 use std::fmt::Write as _;
 use std::path::Path;
 
 pub(crate) fn open(args: &Args) -> Result<(), Failure> {
     let path = args.path(0);
     let out = output(args, &[])?;
-    let bytes = read(path)?;
+    let bytes = read_model(path)?;
     let model = Model::open(&bytes).map_err(|refusal| Failure::refused(shown(path), refusal))?;
     write_model(out, &model)?;
-    let same = if model.as_bytes() == bytes {
-        ", as it was"
+    let departures = Departures::of(&bytes, &model);
+    let change = if departures.is_empty() {
+        ", as it was".into()
+    } else if departures.left_out().is_empty() {
+        "; only the order of its records is another".into()
     } else {
-        ""
+        format!("; left out: {}", departures.left_out())
     };
     say(format!(
-        "{}: {} points in working form{same}\n",
+        "{}: {} points in working form{change}\n",
         shown(out),
         model.len()
     ));
@@ -28,7 +35,7 @@ pub(crate) fn open(args: &Args) -> Result<(), Failure> {
 }
 
 fn load(path: &Path) -> Result<ModelFile, Failure> {
-    let model_file = ModelFile::load(path).map_err(Failure::failed)?;
+    let model_file = ModelFile::load(path).map_err(Failure::file)?;
     if model_file.finished_write {
         let path = shown(path);
         tell(format!(
@@ -38,23 +45,15 @@ fn load(path: &Path) -> Result<ModelFile, Failure> {
     Ok(model_file)
 }
 
-fn save(model_file: &mut ModelFile) -> Result<(), Failure> {
-    let reordered = model_file.reordered;
-    model_file.save().map_err(Failure::failed)?;
-    if reordered {
-        let path = shown(model_file.path());
-        tell(format!(
-            "{path}: was not in working form, and is written so now"
-        ));
-    }
-    Ok(())
-}
-
-fn state(model_file: &ModelFile) -> String {
+fn state(model: &Model) -> String {
+    let redo = match model.redoable() {
+        0 => String::new(),
+        redo => format!(", {redo} to redo"),
+    };
     format!(
-        "{} points, {} edits to undo",
-        model_file.model.len(),
-        model_file.model.entries()
+        "{} points, {} edits to undo{redo}",
+        model.len(),
+        model.entries()
     )
 }
 
@@ -67,10 +66,18 @@ fn masses(before: Option<(f32, f32)>) -> String {
 
 /// One put or remove.
 pub(crate) fn edit(name: &str, args: &Args) -> Result<(), Failure> {
+    let place = args.numbers("--at")?;
     let mut words = vec![name];
+    if place.is_some() {
+        // The model says which cell.
+        words.extend(["0"; 3]);
+    }
     words.extend(args.texts(1)?);
-    let edit = Edit::parse(&words).map_err(Failure::usage)?;
+    let mut edit = Edit::parse(&words).map_err(Failure::usage)?;
     let mut model_file = load(args.path(0))?;
+    if let (Some(place), Edit::Put(x, y, z, ..) | Edit::Remove(x, y, z)) = (place, &mut edit) {
+        [*x, *y, *z] = cell_at(args.path(0), &model_file.model.header(), place)?;
+    }
     edit.apply(&mut model_file.model)
         .map_err(|refusal| Failure::refused(edit, refusal))?;
     let before = model_file
@@ -78,11 +85,11 @@ pub(crate) fn edit(name: &str, args: &Args) -> Result<(), Failure> {
         .history()
         .next_back()
         .and_then(|entry| entry.before);
-    save(&mut model_file)?;
+    model_file.save().map_err(Failure::file)?;
     say(format!(
         "{edit}: the cell {}; {}\n",
         masses(before),
-        state(&model_file)
+        state(&model_file.model)
     ));
     Ok(())
 }
@@ -97,7 +104,25 @@ fn undone(entry: Entry) -> String {
     format!("undo: cell ({x}, {y}, {z}) {now}\n")
 }
 
-pub(crate) fn undo(args: &Args) -> Result<(), Failure> {
+/// One step of undo or redo, and what it did.
+fn take_step(undo: bool, model: &mut Model, what: &str) -> Result<String, Failure> {
+    if undo {
+        let last = model.history().next_back();
+        let refused = |refusal| Failure::refused(what, refusal);
+        model.undo().map_err(refused)?;
+        return Ok(last.map_or(String::new(), undone));
+    }
+    match model.redo() {
+        Ok(Some(edit)) => Ok(format!("redo: {edit}\n")),
+        Ok(None) => Err(Failure::failed(format!(
+            "{what}: nothing to redo\n  what was undone can be redone until the next put or remove"
+        ))),
+        Err(refusal) => Err(Failure::refused(what, refusal)),
+    }
+}
+
+/// How many steps are asked for, none where all are.
+fn steps(args: &Args) -> Result<Option<usize>, Failure> {
     let steps = args.number("--steps", 1_usize)?;
     let all = args.flag("--all");
     if all && args.option("--steps")?.is_some() {
@@ -106,31 +131,36 @@ pub(crate) fn undo(args: &Args) -> Result<(), Failure> {
     if steps == 0 {
         return Err(Failure::usage("--steps: 0 is nothing to do"));
     }
+    Ok((!all).then_some(steps))
+}
+
+/// undo or redo.
+pub(crate) fn step(name: &str, args: &Args) -> Result<(), Failure> {
+    let steps = steps(args)?;
     let mut model_file = load(args.path(0))?;
-    let steps = if all {
-        model_file.model.entries()
-    } else {
-        steps
+    let (undo, model) = (name == "undo", &mut model_file.model);
+    let (done, most) = match undo {
+        true => ("undone", model.entries()),
+        false => ("redone", model.redoable()),
     };
+    let steps = steps.unwrap_or(most);
     let mut text = String::new();
     let mut progress = Progress::new();
     for step in 0..steps {
-        progress.steps("undone", step, steps);
-        let last = model_file.model.history().next_back();
-        model_file.model.undo().map_err(|refusal| {
-            Failure::refused(format!("undo, step {} of {steps}", step + 1), refusal)
-        })?;
+        progress.steps(done, step, steps);
+        let what = format!("{name}, step {} of {steps}", step + 1);
+        let words = take_step(undo, model, &what)?;
         match step {
-            0..10 => text.extend(last.map(undone)),
+            0..10 => text.push_str(&words),
             10 => text.push_str("...\n"),
             _ => {}
         }
     }
     drop(progress);
     if steps > 0 {
-        save(&mut model_file)?;
+        model_file.save().map_err(Failure::file)?;
     }
-    let _ = writeln!(text, "{steps} undone; {}", state(&model_file));
+    let _ = writeln!(text, "{steps} {done}; {}", state(&model_file.model));
     say(text);
     Ok(())
 }
@@ -147,7 +177,8 @@ pub(crate) fn apply(args: &Args) -> Result<(), Failure> {
         if let Err(refusal) = edit.apply(&mut model_file.model) {
             let why = format!("line {line}: {edit}: {refusal}");
             if !args.flag("--keep-going") {
-                return Err(in_list(format!("{why}; nothing is changed")));
+                let advice = refusal.advice();
+                return Err(in_list(format!("{why}; nothing is changed\n  {advice}")));
             }
             refused += 1;
             tell(format!("{}: {why}", shown(list)));
@@ -156,12 +187,12 @@ pub(crate) fn apply(args: &Args) -> Result<(), Failure> {
     drop(progress);
     let made = edits.len() - refused;
     if made > 0 {
-        save(&mut model_file)?;
+        model_file.save().map_err(Failure::file)?;
     }
     say(format!(
         "{made} of {} edits made; {}\n",
         edits.len(),
-        state(&model_file)
+        state(&model_file.model)
     ));
     if refused > 0 {
         return Err(in_list(format!(
@@ -172,30 +203,21 @@ pub(crate) fn apply(args: &Args) -> Result<(), Failure> {
 }
 
 pub(crate) fn log(args: &Args) -> Result<(), Failure> {
-    let model_file = load(args.path(0))?;
+    let model = reading(args.path(0))?.into_model().map_err(Failure::file)?;
     let mut text = String::new();
-    for (i, entry) in model_file.model.history().enumerate() {
-        let [x, y, z] = entry.cell;
-        let what = match entry.change {
-            Change::Added | Change::Replaced => "put",
-            Change::Removed => "remove",
-        };
-        let _ = writeln!(
-            text,
-            "{} {what} {x} {y} {z}: the cell {}",
-            i + 1,
-            masses(entry.before)
-        );
+    for (i, (entry, edit)) in model.history().zip(model.edits()).enumerate() {
+        let before = masses(entry.before);
+        let _ = writeln!(text, "{} {edit}: the cell {before}", i + 1);
     }
-    let _ = writeln!(text, "{}", state(&model_file));
+    let _ = writeln!(text, "{}", state(&model));
     print(text)
 }
 
 pub(crate) fn build(args: &Args) -> Result<(), Failure> {
     let path = args.path(0);
-    let out = output(args, &[(path, "its point file")])?;
-    let tree =
-        Tree::build(&read(path)?).map_err(|refusal| Failure::refused(shown(path), refusal))?;
+    let out = output_apart(args, &[(path, "its point file")])?;
+    let tree = Tree::build(&read_model(path)?)
+        .map_err(|refusal| Failure::refused(shown(path), refusal))?;
     write(out, tree.as_bytes())?;
     say(format!(
         "{}: {} nodes, {} ordered points, {} bytes\n",

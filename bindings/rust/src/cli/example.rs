@@ -23,23 +23,23 @@ fn kernel_list(heading: &str, kernels: &[Kernel]) -> String {
 /// A boulder on the larger body, a void inside it, and denser matter in the smaller one with a cell that is corrected; for grid 32.
 const EDITS: &str = "\
 # a boulder on top of the larger body
-put 9 16 31 9.0e8 9.0e8
-put 10 16 31 9.0e8 9.0e8
-put 9 17 31 9.0e8 9.0e8
-put 10 17 31 9.0e8 9.0e8
+put 7 12 30 9.0e8 9.0e8
+put 8 12 30 9.0e8 9.0e8
+put 7 13 30 9.0e8 9.0e8
+put 8 13 30 9.0e8 9.0e8
 # a void inside it
+remove 8 13 15
 remove 8 14 15
-remove 8 15 15
+remove 9 13 15
 remove 9 14 15
 remove 9 15 15
-remove 9 16 15
 # denser matter in the smaller body
-put 24 15 16 3.0e8 3.0e8
-put 25 15 16 3.0e8 3.0e8
-put 25 16 16 4.0e8 4.0e8
+put 24 20 20 3.0e8 3.0e8
+put 25 20 20 3.0e8 3.0e8
+put 25 21 20 4.0e8 4.0e8
 # that was too much
 undo
-put 25 16 16 3.0e8 3.0e8
+put 25 21 20 3.0e8 3.0e8
 ";
 
 pub(crate) fn example(args: &Args) -> Result<(), Failure> {

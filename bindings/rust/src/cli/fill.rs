@@ -2,9 +2,11 @@
 
 use super::args::Args;
 use super::progress::{seconds, Progress};
-use super::{is_stdin, output, read_text, say, shown, tell, write_model, Failure};
-use mascon::text::{parse_kernels, parse_obj, LineError, Mesh};
-use mascon::{build_mascon, Header, Kernel, Model, Refusal, Triangle};
+use super::warn::{self, Foresight, List};
+use super::{is_stdin, output, read, say, shown, tell, write_model, Failure};
+use mascon::check::{check_lists, Report};
+use mascon::text::{judge_kind, parse_kernels, parse_obj, LineError, Mesh};
+use mascon::{build_mascon, mesh, Header, Kernel, Model, Refusal, Triangle, MAX_COORDINATE};
 use std::path::Path;
 use std::sync::mpsc::{channel, RecvTimeoutError};
 use std::time::{Duration, Instant};
@@ -30,6 +32,21 @@ impl Task<'_> {
         )
     }
 
+    fn lists(&self) -> [List<'_>; 2] {
+        [("Cauchy", self.cauchy), ("elliptic", self.elliptic)]
+    }
+
+    fn faults(&self) -> Report {
+        check_lists(
+            self.triangles,
+            self.cauchy,
+            self.elliptic,
+            self.target,
+            self.density,
+            10,
+        )
+    }
+
     fn work(&self, grid: u32) -> f64 {
         f64::from(grid).powi(3) * self.triangles.len() as f64
     }
@@ -42,7 +59,7 @@ impl Task<'_> {
         // A hundredth of the work, or some ten million tests, whichever is less.
         let share = (work / 100.0).min(1e7) / self.triangles.len().max(1) as f64;
         let coarse = share.cbrt() as u32;
-        if work <= 2e8 || coarse < 2 {
+        if work <= 2e8 || coarse < 2 || super::is_silent() {
             return None;
         }
         let start = Instant::now();
@@ -91,8 +108,15 @@ fn in_file(path: &Path, error: LineError) -> Failure {
     Failure::failed(format!("{}: {error}", shown(path)))
 }
 
-fn read_mesh(path: &Path, scale: f64) -> Result<Mesh, Failure> {
-    let mesh = parse_obj(&read_text(path)?, scale).map_err(|error| in_file(path, error))?;
+/// A mesh or a list as text, once its bytes have shown that it can be one. What is not UTF-8 becomes a mark.
+fn read_input(path: &Path) -> Result<String, Failure> {
+    let bytes = read(path)?;
+    judge_kind(&bytes).map_err(|error| in_file(path, error))?;
+    Ok(String::from_utf8_lossy(&bytes).into_owned())
+}
+
+fn read_mesh(path: &Path, scale: f64, widen: f64) -> Result<Mesh, Failure> {
+    let mut mesh = parse_obj(&read_input(path)?, scale).map_err(|error| in_file(path, error))?;
     let name = shown(path);
     for (keyword, line) in &mesh.ignored {
         tell(format!("{name}: line {line}: `{keyword}` is passed over"));
@@ -103,20 +127,26 @@ fn read_mesh(path: &Path, scale: f64) -> Result<Mesh, Failure> {
             mesh.open_edges
         ));
     }
+    if widen > 0.0 {
+        let triangle = mesh::widening(&mesh.triangles, widen);
+        let far = triangle.a.iter().chain(&triangle.b).map(|x| x.abs());
+        let far = far.fold(0.0, f64::max);
+        if far > MAX_COORDINATE {
+            return Err(Failure::failed(format!(
+                "--widen {widen}: the box would reach {far} m, coordinates go up to 1e6 m"
+            )));
+        }
+        mesh.triangles.push(triangle);
+    }
     Ok(mesh)
 }
 
 /// The lists of Cauchy and of elliptic kernels.
 fn read_kernels(args: &Args) -> Result<[Vec<Kernel>; 2], Failure> {
-    let read = |path: &Path| parse_kernels(&read_text(path)?).map_err(|error| in_file(path, error));
+    let read =
+        |path: &Path| parse_kernels(&read_input(path)?).map_err(|error| in_file(path, error));
     let elliptic = args.option_path("--elliptic").map(read).transpose()?;
-    let lists = [read(args.path(1))?, elliptic.unwrap_or_default()];
-    for (list, name) in lists.iter().zip(["Cauchy", "elliptic"]) {
-        if list.is_empty() {
-            tell(format!("no {name} kernels: {name} masses are 0"));
-        }
-    }
-    Ok(lists)
+    Ok([read(args.path(1))?, elliptic.unwrap_or_default()])
 }
 
 /// Where the point file goes: over none of the files that are read. One of these at most is standard input.
@@ -132,16 +162,27 @@ fn out(args: &Args) -> Result<&Path, Failure> {
     output(args, &inputs)
 }
 
-pub(crate) fn fill(args: &Args) -> Result<(), Failure> {
-    let grid = args.number("--grid", 64_u32)?;
-    let target = args.number("--target", 0.0_f64)?;
-    let density = args.number("--density", 1190.0_f64)?;
+/// What the mesh's coordinates are multiplied by, and its box is widened by.
+fn scale_and_widen(args: &Args) -> Result<(f64, f64), Failure> {
     let scale = args.number("--scale", 1.0_f64)?;
     if !(scale.is_finite() && scale > 0.0) {
         return Err(Failure::usage(format!("--scale: {scale} is not above 0")));
     }
+    let widen = args.number("--widen", 0.0_f64)?;
+    if !(widen.is_finite() && widen >= 0.0) {
+        let why = format!("--widen: {widen} is not 0 or above");
+        return Err(Failure::usage(why));
+    }
+    Ok((scale, widen))
+}
+
+pub(crate) fn fill(args: &Args) -> Result<(), Failure> {
+    let grid = args.number("--grid", 64_u32)?;
+    let target = args.number("--target", 0.0_f64)?;
+    let density = args.number("--density", 1190.0_f64)?;
+    let (scale, widen) = scale_and_widen(args)?;
     let out = out(args)?;
-    let mesh = read_mesh(args.path(0), scale)?;
+    let mesh = read_mesh(args.path(0), scale, widen)?;
     let [cauchy, elliptic] = read_kernels(args)?;
     let task = Task {
         triangles: &mesh.triangles,
@@ -151,21 +192,22 @@ pub(crate) fn fill(args: &Args) -> Result<(), Failure> {
         density,
         grid,
     };
+    warn::target_before(target, task.lists());
+    let foresight = Foresight::of(&mesh.triangles, grid, widen);
+    foresight.warn(&shown(args.path(0)));
     let start = Instant::now();
-    let filled = if args.flag("--quiet") {
-        task.fill(grid)
-    } else {
-        with_progress(&task)
-    };
+    let filled = with_progress(&task);
     let time = start.elapsed().as_secs_f64();
     let model = filled
         .and_then(|file| Model::open(&file))
-        .map_err(|refusal| Failure::refused("fill", refusal))?;
+        .map_err(|refusal| foresight.refused(refusal, || task.faults()))?;
     if model.is_empty() {
-        tell("no cell's middle lies inside the mesh: the point file is empty; try a finer grid");
+        foresight.warn_empty();
     }
+    warn::target_after(target, task.lists(), &model);
     write_model(out, &model)?;
-    say(summary(out, &model, mesh.triangles.len(), time));
+    let triangles = mesh.triangles.len() - usize::from(widen > 0.0);
+    say(summary(out, &model, triangles, time) + &foresight.note());
     Ok(())
 }
 

@@ -5,9 +5,12 @@ mascon: models of small bodies as point masses in a grid
 
   mascon fill MESH KERNELS -o OUT   fill a mesh (OBJ) into a point file
   mascon open IN -o OUT             write a point file in working form
+  mascon get MODEL X Y Z            what a cell holds, and where it is
+  mascon list MODEL                 the points as CSV, all or those in a box
   mascon put MODEL X Y Z CAUCHY ELLIPTIC
   mascon remove MODEL X Y Z         edit a cell of a model file
   mascon undo MODEL                 undo the last edit
+  mascon redo MODEL                 make the edit again that was undone last
   mascon apply MODEL EDITS          make a list of edits
   mascon log MODEL                  list the edits that can be undone
   mascon build IN -o OUT            build the tree of a point file
@@ -16,14 +19,22 @@ mascon: models of small bodies as point masses in a grid
   mascon draw FILE -o OUT           draw a model (.svg or .png)
   mascon example DIR                write a contact binary to try the above on
   mascon help COMMAND               more about a command
+  mascon --version                  (-V) the version
 
+Every command takes --quiet: no report of what was done and no progress; warnings and refusals are said all the same.
 Exit status: 0 done, 1 refused or failed, 2 wrong usage. On failure no file is changed (apply --keep-going saves the
 edits that were made). A file to be read may be - for standard input, but not a model that is edited. A name that begins
 with - follows a word of its own, --.
 ";
 
+pub(crate) const HELP: &str = "\
+mascon help [COMMAND]
+
+Lists the commands, or says more about one of them; mascon COMMAND --help says the same.
+";
+
 const FILL: &str = "\
-mascon fill MESH KERNELS -o OUT [--grid N] [--target KG] [--density D] [--elliptic FILE] [--scale F] [--force] [--quiet]
+mascon fill MESH KERNELS -o OUT [--grid N] [--target KG] [--density D] [--elliptic FILE] [--scale F] [--widen METRES] [--force]
 
 Writes the point file (RYM1) of the cells whose middle lies inside the mesh.
 
@@ -35,8 +46,12 @@ Writes the point file (RYM1) of the cells whose middle lies inside the mesh.
   --density D     the constant density in kg/m^3 (1190)
   --elliptic FILE the elliptic kernels (none: elliptic masses are 0)
   --scale F       multiply the mesh's coordinates, 1000 for a mesh in kilometres (1)
+  --widen METRES  widen the box on each side, by a triangle without area that no ray meets (0)
   --force         write over a model that has a journal; the journal goes
-  --quiet         no progress on standard error
+
+A point file holds half the cells, so that a body which fills more of its box is refused (18): --widen makes room. Before
+it starts, fill tells where that will be so, where the mesh is not closed, and where shells touch on a row of middles: rays
+run along x and crossings at one distance count once, so that cells whose rays pass there are judged wrongly.
 
 The time grows with cells x triangles. At most 2^20 triangles and 4,096 kernels a list; coordinates up to 1e6 m.
 ";
@@ -45,29 +60,59 @@ const OPEN: &str = "\
 mascon open IN -o OUT [--force]
 
 Writes a point file in working form: one record for each occupied cell, ascending by cell. Where two records name
-one cell, the later counts. OUT may be IN. With --force, OUT may be a model that has a journal; the journal goes.
+one cell, the later counts. What was left out (records, pads, bytes after the records) is counted. OUT may be IN. With
+--force, OUT may be a model that has a journal, which goes, or a journal.
 ";
 
 const EDIT: &str = "\
 mascon put MODEL X Y Z CAUCHY ELLIPTIC     masses in kg into a cell, over what it held
 mascon remove MODEL X Y Z                  the cell becomes empty
+mascon put MODEL --at X Y Z CAUCHY ELLIPTIC
+mascon remove MODEL --at X Y Z             the same for the cell that a place in metres lies in (see get)
 mascon undo MODEL [--steps N | --all]      the last edits are undone
+mascon redo MODEL [--steps N | --all]      what was undone last is made again, until the next put or remove
 mascon apply MODEL EDITS [--keep-going]    a list of edits, one a line: put ..., remove ..., undo; # begins a comment; - reads standard input
 mascon log MODEL                           the edits that can be undone, the last one last
 
-X, Y, Z are cell indices from 0. Edits are entered in MODEL.journal, so that undo works across runs. Both files are
-written beside and renamed; the journal names its model by length and hash, and a pair that does not belong together
-is refused. A run that was cut off between the two renames is finished by the next.
+X, Y, Z are cell indices from 0. Edits are entered in MODEL.journal, so that undo and redo work across runs. Both files
+are written beside and renamed; the journal names its model, and the one that it replaced, by length and hash, and a
+pair that does not belong together is refused. A run that was cut off between the two renames is finished by the next
+edit; commands that only read show the model as if it were finished, say so and change nothing. A file that is not in
+working form is not edited: run `mascon open` first.
 
 apply stops at the first refusal, names its line and changes nothing. With --keep-going it passes over refused edits,
-saves the others and exits with 1 if any was refused. Each edit judges the whole model, some 5 ms for a million
-points: 10,000 edits of such a model take about a minute.
+saves the others and exits with 1 if any was refused. Each edit judges the whole model, so that long lists for large
+models take their time; progress is shown.
+";
+
+const GET: &str = "\
+mascon get MODEL X Y Z
+mascon get MODEL --at X Y Z        the cell that a place in metres lies in
+
+Tells of a cell: its indices from 0 and its number, (Z x grid + Y) x grid + X; its record's place in the file, from 0; its
+middle in metres; its masses in kg. That a cell is empty is no failure; a cell outside the grid or a place outside the box is
+refused. A place on a face between two cells lies in the upper one, and the box's greatest faces belong to the last cells.
+Of a file that is not in working form, the record's place is that in the file that `mascon open` writes.
+";
+
+const LIST: &str = "\
+mascon list MODEL [--cells X0 Y0 Z0 X1 Y1 Z1 | --metres X0 Y0 Z0 X1 Y1 Z1]
+
+Writes the points to standard output as CSV, ascending by cell number, under the heading
+index,x,y,z,x_m,y_m,z_m,cauchy_kg,elliptic_kg: the record's place in the file (see get), the cell, its middle in metres and its
+masses, in numbers that read back exactly.
+
+  --cells ...     only the cells from one corner of a box to the other
+  --metres ...    only the cells whose middle lies in a box of metres; inf and -inf leave a side open
+
+Both corners are included and may stand in either order. Where no point is listed, standard error says so.
 ";
 
 const BUILD: &str = "\
-mascon build IN -o OUT
+mascon build IN -o OUT [--force]
 
-Builds the tree (RTM1, version 2) of a point file, in working form or not. The journal is not read.
+Builds the tree (RTM1, version 2) of a point file, in working form or not. With --force over another point file or a
+journal.
 ";
 
 const INFO: &str = "\
@@ -80,15 +125,20 @@ const CHECK: &str = "\
 mascon check FILE [--most N]
 
 Lists every fault of a point file or tree: cause, record or node, field and byte, all counted from 0; N of them (20).
-Of a point file it also lists what is not in working form (cause 10), which is no fault, and where it has none it judges
-FILE.journal. Exit status 1 if there is a fault.
+Of a point file it also lists what is not in working form (cause 10), every repeated cell included, and notes bytes after
+the last record, neither of which is a fault, and where it has none it judges FILE.journal. Exit status 1 if there is a fault.
 ";
 
 const DRAW: &str = "\
-mascon draw FILE -o OUT.svg|OUT.png [--before OTHER] [--mass cauchy|elliptic] [--title TEXT]
+mascon draw FILE -o OUT.svg|OUT.png [--slice z=N|z=Nm] [--before OTHER] [--mass cauchy|elliptic] [--title TEXT]
+            [--force]
 
 Draws occupied cells and mass, summed along each axis: three projections side by side, axes in metres. With --before,
 cells added, removed and changed since OTHER are marked.
+
+With --slice it draws the cells of one layer across x, y or z, each by its mass, empty ones as ground: z=12 is the layer
+of index 12 on z, z=-130.5m the one that this place in metres lies in. With --before, the marks are those of the layer.
+With --force over a point file or a journal.
 ";
 
 const EXAMPLE: &str = "\
@@ -102,7 +152,9 @@ pub(crate) fn of(command: &str) -> Option<&'static str> {
     Some(match command {
         "fill" => FILL,
         "open" => OPEN,
-        "put" | "remove" | "undo" | "apply" | "log" => EDIT,
+        "put" | "remove" | "undo" | "redo" | "apply" | "log" => EDIT,
+        "get" => GET,
+        "list" => LIST,
         "build" => BUILD,
         "info" => INFO,
         "check" => CHECK,

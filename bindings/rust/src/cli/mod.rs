@@ -5,15 +5,25 @@ mod edit;
 mod example;
 mod fill;
 mod help;
+mod list;
 mod progress;
 mod show;
+mod warn;
 
-use args::{Args, Takes};
-use mascon::{Model, ModelFile, Refusal};
+use args::{Args, Takes, QUIET};
+use mascon::{Held, Model, ModelFile, ModelFileError, Reading, Refusal};
 use std::ffi::OsString;
 use std::fmt::Display;
 use std::io::{ErrorKind, Read, Write};
 use std::path::Path;
+use std::sync::atomic::{AtomicBool, Ordering};
+
+/// Whether `--quiet` was given.
+static SILENT: AtomicBool = AtomicBool::new(false);
+
+fn is_silent() -> bool {
+    SILENT.load(Ordering::Relaxed)
+}
 
 /// Why a command ends: wrong usage (2), or refused or failed (1).
 pub(crate) enum Failure {
@@ -32,6 +42,13 @@ impl Failure {
 
     fn refused(what: impl Display, refusal: Refusal) -> Failure {
         Failure::Failed(format!("{what}: {refusal}\n  {}", refusal.advice()))
+    }
+
+    fn file(error: ModelFileError) -> Failure {
+        match error {
+            ModelFileError::Model(path, refusal) => Failure::refused(path.display(), refusal),
+            other => Failure::failed(other),
+        }
     }
 }
 
@@ -54,19 +71,25 @@ fn tell(words: impl Display) {
 
 /// What was asked for, to standard output. A reader that has gone away is no failure.
 fn print(text: impl AsRef<str>) -> Result<(), Failure> {
+    print_part(text).map(|_| ())
+}
+
+/// A part of it; whether there is still a reader.
+fn print_part(text: impl AsRef<str>) -> Result<bool, Failure> {
     let mut out = std::io::stdout().lock();
     let written = out.write_all(text.as_ref().as_bytes());
     match written.and_then(|()| out.flush()) {
-        Err(error) if error.kind() != ErrorKind::BrokenPipe => {
-            Err(Failure::failed(format!("standard output: {error}")))
-        }
-        _ => Ok(()),
+        Ok(()) => Ok(true),
+        Err(error) if error.kind() == ErrorKind::BrokenPipe => Ok(false),
+        Err(error) => Err(Failure::failed(format!("standard output: {error}"))),
     }
 }
 
-/// What was done, to standard output: it is done, whether or not that can be written.
+/// What was done, to standard output: it is done, whether or not that can be written. Not with `--quiet`.
 fn say(text: impl AsRef<str>) {
-    let _ = print(text);
+    if !is_silent() {
+        let _ = print(text);
+    }
 }
 
 /// A file, or standard input for `-`.
@@ -83,20 +106,68 @@ fn read(path: &Path) -> Result<Vec<u8>, Failure> {
     read.map_err(|error| Failure::failed(format!("{}: {error}", shown(path))))
 }
 
-/// The same, as text.
+/// The same, as text; what is not UTF-8, as in a comment in Latin-1, becomes a mark.
 fn read_text(path: &Path) -> Result<String, Failure> {
-    String::from_utf8(read(path)?).map_err(|error| {
-        let at = error.utf8_error().valid_up_to();
-        Failure::failed(format!("{}: byte {at} is not text (UTF-8)", shown(path)))
-    })
+    let bytes = read(path)?;
+    match bytes.iter().position(|&byte| byte == 0) {
+        Some(at) => {
+            let why = format!("{}: byte {at} is 0, this is not text", shown(path));
+            Err(Failure::failed(why))
+        }
+        None => Ok(String::from_utf8_lossy(&bytes).into_owned()),
+    }
 }
 
+/// A model file for a command that only reads it, with its journal: a save that was cut off is finished in memory, and told.
+fn reading(path: &Path) -> Result<Reading, Failure> {
+    if is_stdin(path) {
+        return Ok(Reading::alone(read(path)?));
+    }
+    let reading = ModelFile::read(path).map_err(Failure::file)?;
+    if reading.unfinished {
+        tell(format!(
+            "{}: a save was cut off, or is going on: this is the model that it saves, and the next edit finishes it",
+            shown(path)
+        ));
+    }
+    Ok(reading)
+}
+
+/// That a journal does not belong to its model, of which the command makes what it can.
+fn tell_apart(reading: &Reading) {
+    if let Some(error) = reading.journal_error() {
+        tell(format!("{error}. The model is taken as it stands"));
+    }
+}
+
+/// The bytes of a model file as it is now, or standard input. A journal that does not belong to it is told.
+fn read_model(path: &Path) -> Result<Vec<u8>, Failure> {
+    let reading = reading(path)?;
+    tell_apart(&reading);
+    Ok(reading.bytes)
+}
+
+/// What stands at a path and belongs to a model.
+fn held(path: &Path) -> Result<Option<Held>, Failure> {
+    mascon::held_at(path).map_err(|error| Failure::failed(format!("{}: {error}", shown(path))))
+}
+
+/// Writes a file. What it loses of a model, by --force, is told.
 fn write(path: &Path, bytes: &[u8]) -> Result<(), Failure> {
+    let lost = held(path)?.filter(|_| path.exists());
     mascon::write_file(path, bytes)
-        .map_err(|error| Failure::failed(format!("{}: {error}", shown(path))))
+        .map_err(|error| Failure::failed(format!("{}: {error}", shown(path))))?;
+    if let Some(lost) = lost {
+        tell(format!("{}: written over {lost}", shown(path)));
+        if let Some(journal) = mascon::beside_model(path) {
+            tell(format!("{}: its model is gone", shown(&journal)));
+        }
+    }
+    Ok(())
 }
 
-/// Where a command writes: over nothing that it reads, named with what that is, and over no model with a journal of edits.
+/// Where a model is written: over nothing that the command reads, named with what that is, over no model with a journal of edits, and
+/// over no journal.
 fn output<'a>(args: &'a Args, inputs: &[(&Path, &str)]) -> Result<&'a Path, Failure> {
     let missing = || Failure::usage("missing: -o");
     let out = args.option_path("-o").ok_or_else(missing)?;
@@ -110,21 +181,57 @@ fn output<'a>(args: &'a Args, inputs: &[(&Path, &str)]) -> Result<&'a Path, Fail
             return Err(Failure::usage(why));
         }
     }
-    let journal = mascon::journal_path(out);
-    if !args.flag("--force") && journal.exists() {
+    if args.flag("--force") {
+        return Ok(out);
+    }
+    if let Some(journal) = mascon::beside_model(out) {
         return Err(Failure::failed(format!(
-            "{} has a journal of edits, {}: write elsewhere, or first move the journal away (fill and open: --force loses it)",
+            "{} has a journal of edits, {}: write elsewhere, move the journal away, or add --force",
             shown(out),
             shown(&journal)
         )));
     }
-    Ok(out)
+    match held(out)? {
+        None | Some(Held::PointFile) => Ok(out),
+        Some(held) => Err(would_lose(out, held)),
+    }
 }
 
-/// Writes a model anew; the journal of the one that stood there goes.
-fn write_model(out: &Path, model: &Model) -> Result<(), Failure> {
-    ModelFile::replace(out, model).map_err(Failure::failed)
+/// Where a tree or a picture is written: over no point file either.
+fn output_apart<'a>(args: &'a Args, inputs: &[(&Path, &str)]) -> Result<&'a Path, Failure> {
+    let out = output(args, inputs)?;
+    match held(out)?.filter(|_| !args.flag("--force")) {
+        None => Ok(out),
+        Some(held) => Err(would_lose(out, held)),
+    }
 }
+
+fn would_lose(out: &Path, held: Held) -> Failure {
+    Failure::failed(format!(
+        "{} is {held}: write elsewhere, or add --force",
+        shown(out)
+    ))
+}
+
+/// Writes a model anew; the journal of the one that stood there goes, and that is told.
+fn write_model(out: &Path, model: &Model) -> Result<(), Failure> {
+    let journal = mascon::beside_model(out);
+    let lost = held(out)?.filter(|held| *held != Held::PointFile && out.exists());
+    ModelFile::replace(out, model).map_err(Failure::file)?;
+    if let Some(journal) = journal {
+        let (out, journal) = (shown(out), shown(&journal));
+        tell(format!(
+            "{out}: written over a model with {journal}, which is gone"
+        ));
+    }
+    if let Some(lost) = lost {
+        tell(format!("{}: written over {lost}", shown(out)));
+    }
+    Ok(())
+}
+
+const AT: &[&str] = &["--at X Y Z"];
+const BOXES: &[&str] = &["--cells X0 Y0 Z0 X1 Y1 Z1", "--metres X0 Y0 Z0 X1 Y1 Z1"];
 
 fn takes(command: &str) -> Option<Takes> {
     let (words, options, flags): (&[&str], &[&str], &[&str]) = match command {
@@ -137,19 +244,26 @@ fn takes(command: &str) -> Option<Takes> {
                 "--density",
                 "--elliptic",
                 "--scale",
+                "--widen",
             ],
-            &["--force", "--quiet"],
+            &["--force"],
         ),
         "open" => (&["IN"], &["-o"], &["--force"]),
-        "put" => (&["MODEL", "X", "Y", "Z", "CAUCHY", "ELLIPTIC"], &[], &[]),
-        "remove" => (&["MODEL", "X", "Y", "Z"], &[], &[]),
-        "undo" => (&["MODEL"], &["--steps"], &["--all"]),
+        "put" => (&["MODEL", "X", "Y", "Z", "CAUCHY", "ELLIPTIC"], AT, &[]),
+        "remove" => (&["MODEL", "X", "Y", "Z"], AT, &[]),
+        "undo" | "redo" => (&["MODEL"], &["--steps"], &["--all"]),
         "apply" => (&["MODEL", "EDITS"], &[], &["--keep-going"]),
         "log" => (&["MODEL"], &[], &[]),
-        "build" => (&["IN"], &["-o"], &[]),
+        "build" => (&["IN"], &["-o"], &["--force"]),
         "info" => (&["FILE"], &[], &[]),
         "check" => (&["FILE"], &["--most"], &[]),
-        "draw" => (&["FILE"], &["-o", "--before", "--mass", "--title"], &[]),
+        "get" => (&["MODEL", "X", "Y", "Z"], AT, &[]),
+        "list" => (&["MODEL"], BOXES, &[]),
+        "draw" => (
+            &["FILE"],
+            &["-o", "--before", "--mass", "--title", "--slice"],
+            &["--force"],
+        ),
         "example" => (&["DIR"], &["--rings"], &["--force"]),
         _ => return None,
     };
@@ -160,17 +274,28 @@ fn takes(command: &str) -> Option<Takes> {
     })
 }
 
+/// Edits are of a file, with its journal beside it.
+const OF_A_FILE: [&str; 6] = ["put", "remove", "undo", "redo", "apply", "log"];
+
 fn command(name: &str, args: &Args) -> Result<(), Failure> {
+    SILENT.store(args.flag(QUIET), Ordering::Relaxed);
+    if OF_A_FILE.contains(&name) && is_stdin(args.path(0)) {
+        return Err(Failure::usage(
+            "MODEL is a file with its journal beside it, standard input (-) has none",
+        ));
+    }
     match name {
         "fill" => fill::fill(args),
         "open" => edit::open(args),
         "put" | "remove" => edit::edit(name, args),
-        "undo" => edit::undo(args),
+        "undo" | "redo" => edit::step(name, args),
         "apply" => edit::apply(args),
         "log" => edit::log(args),
         "build" => edit::build(args),
         "info" => show::info(args),
         "check" => show::check(args),
+        "get" => list::get(args),
+        "list" => list::list(args),
         "draw" => show::draw(args),
         _ => example::example(args),
     }
@@ -179,6 +304,7 @@ fn command(name: &str, args: &Args) -> Result<(), Failure> {
 fn help(about: &[OsString]) -> Result<(), Failure> {
     match about {
         [] => print(help::ALL),
+        [name] if name == "help" => print(help::HELP),
         [name] => match name.to_str().and_then(help::of) {
             Some(text) => print(text),
             None => Err(Failure::usage(format!("no command `{}`", name.display()))),
@@ -197,7 +323,7 @@ pub(crate) fn run(words: &[OsString]) -> u8 {
     let (Some(takes), Some(text)) = (takes(&name), help::of(&name)) else {
         let done = match &*name {
             "help" | "--help" | "-h" => help(rest),
-            "--version" => print(concat!("mascon ", env!("CARGO_PKG_VERSION"), "\n")),
+            "--version" | "-V" => print(concat!("mascon ", env!("CARGO_PKG_VERSION"), "\n")),
             _ => Err(Failure::usage(format!("no command `{name}`"))),
         };
         return ended(done, "mascon", help::ALL);

@@ -23,7 +23,7 @@ impl Progress {
     /// After two seconds, and from time to time from then on: the words for the seconds gone by.
     pub(crate) fn tell(&mut self, words: impl FnOnce(f64) -> String) {
         let elapsed = self.start.elapsed();
-        if elapsed < self.next {
+        if elapsed < self.next || super::is_silent() {
             return;
         }
         let (begin, end, wait) = if self.terminal {

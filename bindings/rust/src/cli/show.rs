@@ -1,10 +1,11 @@
 //! The commands info, check and draw.
 
 use super::args::Args;
-use super::{is_stdin, output, print, read, say, shown, write, Failure};
-use mascon::check::{check_points, check_tree, check_working_form, Report};
-use mascon::draw::{difference, Mass, Picture};
-use mascon::{journal_entries, Model, ModelFileError, Tree};
+use super::list::{outside_box, outside_grid};
+use super::{output_apart, print, read_model, reading, say, shown, tell_apart, write, Failure};
+use mascon::check::{check_points, check_tree, check_working_form, trailing_bytes, Report};
+use mascon::draw::{difference, Mass, Picture, Slice};
+use mascon::{Header, Model, ModelFileError, Reading, Tree};
 use std::fmt::Write as _;
 use std::path::Path;
 
@@ -22,17 +23,17 @@ fn vector(numbers: [f64; 3]) -> String {
     format!("({x}, {y}, {z})")
 }
 
-fn floats(numbers: [f32; 3]) -> String {
+pub(crate) fn floats(numbers: [f32; 3]) -> String {
     let [x, y, z] = numbers;
     format!("({x}, {y}, {z})")
 }
 
 pub(crate) fn info(args: &Args) -> Result<(), Failure> {
     let path = args.path(0);
-    let bytes = read(path)?;
+    let reading = reading(path)?;
     let mut text = String::new();
-    if is_tree(&bytes) {
-        let tree = Tree::open(bytes).map_err(|fault| {
+    if is_tree(&reading.bytes) {
+        let tree = Tree::open(reading.bytes).map_err(|fault| {
             Failure::failed(format!(
                 "{}: {fault}; `mascon check` lists all",
                 shown(path)
@@ -40,13 +41,17 @@ pub(crate) fn info(args: &Args) -> Result<(), Failure> {
         })?;
         tree_info(&mut text, &tree);
     } else {
-        let model =
-            Model::open(&bytes).map_err(|refusal| Failure::refused(shown(path), refusal))?;
-        points_info(&mut text, &model, &bytes);
-        match journal(path, &bytes) {
+        tell_apart(&reading);
+        let model = Model::open(&reading.bytes)
+            .map_err(|refusal| Failure::refused(shown(path), refusal))?;
+        points_info(&mut text, &model, &reading.bytes);
+        match journal(reading) {
             Ok(None) => {}
-            Ok(Some(entries)) => {
-                let _ = writeln!(text, "journal         {entries} edits to undo");
+            Ok(Some((entries, redo))) => {
+                let _ = writeln!(
+                    text,
+                    "journal         {entries} edits to undo, {redo} to redo"
+                );
             }
             Err(error) => {
                 let _ = writeln!(text, "journal         {error}");
@@ -56,12 +61,13 @@ pub(crate) fn info(args: &Args) -> Result<(), Failure> {
     print(text)
 }
 
-/// How many edits the journal beside a file holds; standard input has none.
-fn journal(path: &Path, bytes: &[u8]) -> Result<Option<usize>, ModelFileError> {
-    if is_stdin(path) {
+/// How many edits can be undone and redone by the journal beside a file, none where there is no journal.
+fn journal(reading: Reading) -> Result<Option<(usize, usize)>, ModelFileError> {
+    if !reading.has_journal() {
         return Ok(None);
     }
-    journal_entries(path, bytes)
+    let model = reading.into_model()?;
+    Ok(Some((model.entries(), model.redoable())))
 }
 
 fn points_info(text: &mut String, model: &Model, bytes: &[u8]) {
@@ -78,12 +84,13 @@ fn points_info(text: &mut String, model: &Model, bytes: &[u8]) {
         "points          {} ({share:.1} % of the cells)",
         model.len()
     );
-    let form = if model.as_bytes() == bytes {
+    let form = if check_working_form(bytes, 0).is_clean() {
         "yes".to_string()
     } else {
-        format!("no: {records} records, order, pads or trailing bytes; `mascon open` writes it")
+        format!("no: {records} records, their order or pads; `mascon open` writes it")
     };
     let _ = writeln!(text, "working form    {form}");
+    trailing_note(text, bytes);
     let _ = writeln!(
         text,
         "box             {} to {} m",
@@ -129,6 +136,17 @@ fn points_info(text: &mut String, model: &Model, bytes: &[u8]) {
             text,
             "cells used      x {} to {}, y {} to {}, z {} to {}",
             low[0], high[0], low[1], high[1], low[2], high[2]
+        );
+    }
+}
+
+/// Bytes after the last record are no fault, and no matter of working form.
+fn trailing_note(text: &mut String, bytes: &[u8]) {
+    let trailing = trailing_bytes(bytes);
+    if trailing > 0 {
+        let _ = writeln!(
+            text,
+            "trailing bytes  {trailing} after the last record, not read; `mascon open` drops them"
         );
     }
 }
@@ -190,7 +208,7 @@ fn tree_faults(text: &mut String, bytes: &[u8], most: usize) -> usize {
     report.total
 }
 
-/// The faults of a point file, what keeps it from working form, and the faults of its journal.
+/// The faults of a point file, and what keeps it from working form.
 fn point_faults(
     text: &mut String,
     path: &Path,
@@ -216,17 +234,21 @@ fn point_faults(
         });
         list(text, &form);
     }
-    match report.total {
-        0 => journal_faults(text, path, bytes),
-        total => Ok(total),
+    if report.is_clean() {
+        trailing_note(text, bytes);
     }
+    Ok(report.total)
 }
 
-fn journal_faults(text: &mut String, path: &Path, bytes: &[u8]) -> Result<usize, Failure> {
-    match journal(path, bytes) {
+/// The faults of a point file's journal.
+fn journal_faults(text: &mut String, reading: Reading) -> Result<usize, Failure> {
+    match journal(reading) {
         Ok(None) => Ok(0),
-        Ok(Some(entries)) => {
-            let _ = writeln!(text, "journal: {entries} edits, each fits its cell");
+        Ok(Some((entries, redo))) => {
+            let _ = writeln!(
+                text,
+                "journal: {entries} edits to undo, {redo} to redo, each fits its cell"
+            );
             Ok(0)
         }
         Err(error @ ModelFileError::File(..)) => Err(Failure::failed(error)),
@@ -240,12 +262,15 @@ fn journal_faults(text: &mut String, path: &Path, bytes: &[u8]) -> Result<usize,
 pub(crate) fn check(args: &Args) -> Result<(), Failure> {
     let path = args.path(0);
     let most = args.number("--most", 20_usize)?;
-    let bytes = read(path)?;
+    let reading = reading(path)?;
     let mut text = String::new();
-    let faults = if is_tree(&bytes) {
-        tree_faults(&mut text, &bytes, most)
+    let faults = if is_tree(&reading.bytes) {
+        tree_faults(&mut text, &reading.bytes, most)
     } else {
-        point_faults(&mut text, path, &bytes, most)?
+        match point_faults(&mut text, path, &reading.bytes, most)? {
+            0 => journal_faults(&mut text, reading)?,
+            faults => faults,
+        }
     };
     if faults == 0 {
         let _ = writeln!(text, "{}: no fault", shown(path));
@@ -257,11 +282,11 @@ pub(crate) fn check(args: &Args) -> Result<(), Failure> {
     Err(Failure::failed(why))
 }
 
-/// The model to be drawn.
-fn model(path: &Path) -> Result<Model, Failure> {
-    let bytes = read(path)?;
+/// The model that a command reads and leaves as it is.
+pub(crate) fn model(path: &Path) -> Result<Model, Failure> {
+    let bytes = read_model(path)?;
     if is_tree(&bytes) {
-        let why = format!("{}: this is a tree, draw its point file", shown(path));
+        let why = format!("{}: this is a tree, give its point file", shown(path));
         return Err(Failure::failed(why));
     }
     Model::open(&bytes).map_err(|refusal| Failure::refused(shown(path), refusal))
@@ -300,7 +325,7 @@ fn picture_file(args: &Args) -> Result<(&Path, bool), Failure> {
         args.option_path("--before")
             .map(|path| (path, "its point file")),
     );
-    let out = output(args, &inputs)?;
+    let out = output_apart(args, &inputs)?;
     let ending = out.extension().and_then(|ending| ending.to_str());
     match ending.map(str::to_ascii_lowercase).as_deref() {
         Some("svg") => Ok((out, true)),
@@ -312,16 +337,63 @@ fn picture_file(args: &Args) -> Result<(&Path, bool), Failure> {
     }
 }
 
+/// A layer as it is asked for: by its cells' index or by a place in metres.
+#[derive(Clone, Copy)]
+enum Layer {
+    Index(u32),
+    Metres(f64),
+}
+
+/// `--slice z=12` or, in metres, `--slice z=130m`: the axis and the layer.
+fn layer(args: &Args) -> Result<Option<(usize, Layer)>, Failure> {
+    let Some(value) = args.option("--slice")? else {
+        return Ok(None);
+    };
+    let (axis, place) = value.split_once('=').unwrap_or_default();
+    let axis = ["x", "y", "z"].iter().position(|name| *name == axis);
+    let layer = match place.strip_suffix('m') {
+        Some(metres) => metres.parse().ok().map(Layer::Metres),
+        None => place.parse().ok().map(Layer::Index),
+    };
+    axis.zip(layer).map(Some).ok_or_else(|| {
+        Failure::usage(format!(
+            "--slice: `{value}` is not as in z=12, a cell index, or z=130.5m, metres"
+        ))
+    })
+}
+
+fn slice(path: &Path, header: &Header, (axis, layer): (usize, Layer)) -> Result<Slice, Failure> {
+    let index = match layer {
+        Layer::Index(index) => index,
+        Layer::Metres(metres) => {
+            let mut place = header.min.map(f64::from);
+            place[axis] = metres;
+            let what = format!("layer {} = {metres} m", ["x", "y", "z"][axis]);
+            let outside = || outside_box(path, &what, header);
+            header.cell_at(place).ok_or_else(outside)?[axis]
+        }
+    };
+    let slice = [Slice::X, Slice::Y, Slice::Z][axis](index);
+    if index >= header.grid {
+        return Err(outside_grid(path, &format!("layer {slice}"), header.grid));
+    }
+    Ok(slice)
+}
+
 pub(crate) fn draw(args: &Args) -> Result<(), Failure> {
-    let (mass, title) = (mass(args)?, title(args)?);
+    let (mass, title, layer) = (mass(args)?, title(args)?, layer(args)?);
     let (out, svg) = picture_file(args)?;
-    let now = model(args.path(0))?;
+    let path = args.path(0);
+    let now = model(path)?;
+    let slice = layer.map(|layer| slice(path, &now.header(), layer));
+    let slice = slice.transpose()?;
     let before = args.option_path("--before").map(model).transpose()?;
     let picture = Picture {
         model: &now,
         before: before.as_ref(),
         mass,
         title,
+        slice,
     };
     let bytes = if svg {
         picture.svg().map(String::into_bytes)
@@ -330,17 +402,33 @@ pub(crate) fn draw(args: &Args) -> Result<(), Failure> {
     };
     let not_comparable = |error| Failure::failed(format!("--before: {error}"));
     write(out, &bytes.map_err(not_comparable)?)?;
-    let mut text = format!("{}: {} points drawn", shown(out), now.len());
-    if let Some(before) = &before {
-        let d = difference(before, &now).map_err(not_comparable)?;
+    say(drawn(out, &picture)?);
+    Ok(())
+}
+
+/// What was drawn, in words.
+fn drawn(out: &Path, picture: &Picture) -> Result<String, Failure> {
+    let points = picture.model.points();
+    let points = points.filter(|point| picture.shows([point.x, point.y, point.z]));
+    let layer = picture.slice.map(|slice| format!("layer {slice}, "));
+    let mut text = format!(
+        "{}: {}{} points drawn",
+        shown(out),
+        layer.unwrap_or_default(),
+        points.count()
+    );
+    if let Some(before) = picture.before {
+        let d = difference(before, picture.model).map_err(Failure::failed)?;
+        let [added, removed, changed] = [d.added, d.removed, d.changed].map(|cells| {
+            cells
+                .into_iter()
+                .filter(|cell| picture.shows(*cell))
+                .count()
+        });
         let _ = write!(
             text,
-            "; {} added, {} removed, {} changed",
-            d.added.len(),
-            d.removed.len(),
-            d.changed.len()
+            "; {added} added, {removed} removed, {changed} changed"
         );
     }
-    say(text + "\n");
-    Ok(())
+    Ok(text + "\n")
 }

@@ -1,10 +1,13 @@
-//! Pictures of models: occupied cells and masses, summed along each axis, and what was edited.
+//! Pictures of models: occupied cells and masses, summed along each axis or of one layer, and what was edited.
 
 mod font;
 mod png;
+mod slice;
 mod svg;
 
-use crate::{ffi, Model};
+pub use slice::{PictureError, Slice};
+
+use crate::{ffi, Model, Point};
 use std::fmt;
 
 /// Which mass is drawn.
@@ -28,15 +31,23 @@ pub struct Picture<'a> {
     pub mass: Mass,
     /// The heading.
     pub title: String,
+    /// The one layer that is drawn, in place of the sums along each axis.
+    pub slice: Option<Slice>,
 }
 
 /// Two models that cannot be held against each other: their grids or boxes differ.
-#[derive(Clone, Copy, Debug, PartialEq, Eq)]
+#[derive(Clone, Copy, PartialEq, Eq)]
 pub struct NotComparable;
 
 impl fmt::Display for NotComparable {
     fn fmt(&self, f: &mut fmt::Formatter<'_>) -> fmt::Result {
         write!(f, "the two models have different grids or boxes")
+    }
+}
+
+impl fmt::Debug for NotComparable {
+    fn fmt(&self, f: &mut fmt::Formatter<'_>) -> fmt::Result {
+        fmt::Display::fmt(self, f)
     }
 }
 
@@ -245,7 +256,7 @@ fn rounded(x: f64) -> String {
 /// Occupied cells and mass of a column.
 type Sums = (u32, f64);
 
-/// Sums along an axis.
+/// Sums along an axis, or the cells of a layer.
 struct Projection {
     /// The axes to the right and up.
     axes: [usize; 2],
@@ -262,6 +273,10 @@ struct Layout {
     scale: f64,
     min: [f64; 3],
     extent: [f64; 3],
+    /// The least length of a panel's side.
+    least: f64,
+    /// The axes to the right and up of each panel.
+    panels: Vec<[usize; 2]>,
     /// Room for the labels left of a panel.
     left: f64,
 }
@@ -271,35 +286,58 @@ const LETTER: f64 = 12.0;
 const GAP: f64 = 22.0;
 const TOP: f64 = 122.0;
 const ROW_GAP: f64 = 118.0;
+/// A panel's longer side.
 const LONGEST: f64 = 440.0;
+/// The longer side of a slice: so long that cells are `SLICE_CELL` dots wide, as far as the two ends allow.
+const SLICE: [f64; 2] = [900.0, 2000.0];
+const SLICE_CELL: f64 = 4.0;
 /// Of a title that is longer, the rest is left out.
 const TITLE: usize = 200;
 
 impl Layout {
-    fn of(model: &Model) -> Layout {
+    fn of(model: &Model, slice: Option<Slice>) -> Layout {
         let header = model.header();
         let [min, max] = [header.min, header.max].map(|corner| corner.map(f64::from));
         let extent = [0, 1, 2].map(|axis| max[axis] - min[axis]);
+        let grid = f64::from(header.grid);
+        let (panels, scale, least) = match slice {
+            None => {
+                let panels = vec![[0, 1], [0, 2], [1, 2]];
+                let long = extent.into_iter().fold(0.0, f64::max);
+                (panels, LONGEST / long, 24.0)
+            }
+            Some(slice) => {
+                let [a, b] = slice.axes().map(|axis| extent[axis]);
+                let (long, short) = (a.max(b), a.min(b));
+                let longest = (SLICE_CELL * grid * (long / short)).clamp(SLICE[0], SLICE[1]);
+                let least = (SLICE_CELL / 2.0 * grid).max(24.0);
+                (vec![slice.axes()], longest / long, least)
+            }
+        };
         let mut layout = Layout {
             grid: header.grid,
-            scale: LONGEST / extent.into_iter().fold(0.0, f64::max),
+            scale,
             min,
             extent,
+            least,
+            panels,
             left: 0.0,
         };
         let labels =
-            [1, 2].map(|axis| widest(&ticks_upward(min[axis], max[axis], layout.size(axis))));
-        layout.left = (labels[0].max(labels[1]) + 20.0).max(92.0);
+            |&[_, up]: &[usize; 2]| widest(&ticks_upward(min[up], max[up], layout.size(up)));
+        let widest = layout.panels.iter().map(labels).fold(0.0, f64::max);
+        layout.left = (widest + 20.0).max(92.0);
         layout
     }
 
     fn size(&self, axis: usize) -> f64 {
-        (self.extent[axis] * self.scale).max(24.0)
+        (self.extent[axis] * self.scale).max(self.least)
     }
 
     /// The height of a row of panels.
     fn row(&self) -> f64 {
-        self.size(1).max(self.size(2))
+        let heights = self.panels.iter().map(|&[_, up]| self.size(up));
+        heights.fold(0.0, f64::max)
     }
 
     /// A cell's dots along an axis.
@@ -336,22 +374,35 @@ impl Layout {
     }
 }
 
-impl Picture<'_> {
+impl<'a> Picture<'a> {
+    /// A picture of a model, without a title.
+    pub fn new(model: &'a Model) -> Picture<'a> {
+        Picture {
+            model,
+            before: None,
+            mass: Mass::default(),
+            title: String::new(),
+            slice: None,
+        }
+    }
+
     /// The picture as SVG text.
     ///
     /// ```
-    /// use mascon::{draw::Picture, shapes, Model};
+    /// use mascon::{draw::{Picture, Slice}, shapes, Model};
     ///
     /// let (mesh, kernels) = shapes::contact_binary(6);
     /// let model = Model::fill(&mesh, &kernels, &kernels, 0.0, 1.0, 12)?;
-    /// let picture = Picture { model: &model, before: None, mass: Default::default(), title: "body".into() };
+    /// let picture = Picture { title: "body".into(), ..Picture::new(&model) };
     /// assert!(picture.svg().unwrap().starts_with("<svg"));
+    /// let layer = Picture { slice: Some(Slice::Z(6)), ..picture };
+    /// assert!(layer.svg().unwrap().contains("body, layer z = 6"));
     /// # Ok::<(), mascon::Refusal>(())
     /// ```
     ///
     /// # Errors
-    /// [`NotComparable`] where `before` has another grid or box.
-    pub fn svg(&self) -> Result<String, NotComparable> {
+    /// [`PictureError`] where `before` has another grid or box, or the slice lies outside the grid.
+    pub fn svg(&self) -> Result<String, PictureError> {
         let [width, height] = self.size();
         let mut svg = svg::Svg::new(width, height);
         self.draw(&mut svg)?;
@@ -361,52 +412,86 @@ impl Picture<'_> {
     /// The picture as the bytes of a PNG file.
     ///
     /// # Errors
-    /// [`NotComparable`] where `before` has another grid or box.
-    pub fn png(&self) -> Result<Vec<u8>, NotComparable> {
+    /// As [`svg`](Picture::svg).
+    pub fn png(&self) -> Result<Vec<u8>, PictureError> {
         let [width, height] = self.size();
         let mut dots = png::Dots::new(width, height);
         self.draw(&mut dots)?;
         Ok(dots.png())
     }
 
+    /// Whether a cell is in the picture: any, or those of the slice.
+    pub fn shows(&self, cell: [u32; 3]) -> bool {
+        self.slice.is_none_or(|slice| slice.has(cell))
+    }
+
+    /// The points that are drawn.
+    fn points(&self) -> impl Iterator<Item = Point> + '_ {
+        let points = self.model.points();
+        points.filter(|point| self.shows([point.x, point.y, point.z]))
+    }
+
     fn facts(&self) -> String {
-        let (cauchy, elliptic) = self.model.masses();
-        let [x, y, z] = self.model.header().cell_size().map(rounded);
+        let header = self.model.header();
+        let (mut points, mut cauchy, mut elliptic) = (0, 0.0, 0.0);
+        for point in self.points() {
+            points += 1;
+            cauchy += f64::from(point.cauchy_mass);
+            elliptic += f64::from(point.elliptic_mass);
+        }
+        let [x, y, z] = header.cell_size().map(rounded);
+        let (layer, cell) = match self.slice {
+            None => (String::new(), format!(", cell {x} x {y} x {z} m")),
+            Some(slice) => {
+                let index = slice.index();
+                let middle = header.middle(index, index, index)[slice.axis()];
+                let layer = format!("layer {slice} at {} m, ", rounded(middle));
+                (layer, String::new())
+            }
+        };
         format!(
-            "grid {}, {} points, Cauchy mass {} kg, elliptic mass {} kg, cell {x} x {y} x {z} m",
-            self.model.grid(),
-            self.model.len(),
+            "grid {}, {layer}{points} points, Cauchy mass {} kg, elliptic mass {} kg{cell}",
+            header.grid,
             rounded(cauchy),
             rounded(elliptic),
         )
     }
 
     fn title(&self) -> String {
-        match self.title.char_indices().nth(TITLE) {
+        let title = match self.title.char_indices().nth(TITLE) {
             Some((end, _)) => format!("{}...", &self.title[..end]),
             None => self.title.clone(),
+        };
+        match self.slice {
+            None => title,
+            Some(slice) if title.is_empty() => format!("layer {slice}"),
+            Some(slice) => format!("{title}, layer {slice}"),
         }
     }
 
     fn size(&self) -> [f64; 2] {
-        let layout = Layout::of(self.model);
+        let layout = Layout::of(self.model, self.slice);
         let letters = self.facts().len().max(self.title().chars().count());
-        let panels = 2.0 * layout.size(0) + layout.size(1);
-        let width = panels + 3.0 * (layout.left + GAP) + 205.0;
+        let panels = layout.panels.iter();
+        let panels: f64 = panels
+            .map(|&[right, _]| layout.size(right) + layout.left + GAP)
+            .sum();
+        let rows = if self.slice.is_some() { 1.0 } else { 2.0 };
         let legend = if self.before.is_some() { 44.0 } else { 0.0 };
         [
-            width.max(LETTER * letters as f64 + 48.0),
-            TOP + 2.0 * (layout.row() + ROW_GAP) + legend - 20.0,
+            (panels + 205.0).max(LETTER * letters as f64 + 48.0),
+            TOP + rows * (layout.row() + ROW_GAP) + legend - 20.0,
         ]
     }
 
-    fn projections(&self) -> [Projection; 3] {
+    fn projections(&self, panels: &[[usize; 2]]) -> Vec<Projection> {
         let grid = self.model.grid() as usize;
-        let mut projections = [[0, 1], [0, 2], [1, 2]].map(|axes| Projection {
+        let empty = |&axes: &[usize; 2]| Projection {
             axes,
             columns: vec![(0, 0.0); grid * grid],
-        });
-        for point in self.model.points() {
+        };
+        let mut projections: Vec<Projection> = panels.iter().map(empty).collect();
+        for point in self.points() {
             let cell = [point.x, point.y, point.z].map(|index| index as usize);
             let mass = match self.mass {
                 Mass::Cauchy => point.cauchy_mass,
@@ -421,16 +506,37 @@ impl Picture<'_> {
         projections
     }
 
-    fn draw(&self, canvas: &mut impl Canvas) -> Result<(), NotComparable> {
-        let difference = match self.before {
+    fn sheet(&self) -> Result<Sheet, PictureError> {
+        let grid = self.model.grid();
+        if let Some(slice) = self.slice.filter(|slice| slice.index() >= grid) {
+            return Err(PictureError::NoSuchLayer { slice, grid });
+        }
+        let mut difference = match self.before {
             Some(before) => difference(before, self.model)?,
             None => Difference::default(),
         };
-        let sheet = Sheet {
-            layout: Layout::of(self.model),
-            projections: self.projections(),
+        let mut elsewhere = 0;
+        for cells in [
+            &mut difference.added,
+            &mut difference.removed,
+            &mut difference.changed,
+        ] {
+            let all = cells.len();
+            cells.retain(|&cell| self.shows(cell));
+            elsewhere += all - cells.len();
+        }
+        let layout = Layout::of(self.model, self.slice);
+        Ok(Sheet {
+            projections: self.projections(&layout.panels),
+            slice: self.slice,
+            layout,
             difference,
-        };
+            elsewhere,
+        })
+    }
+
+    fn draw(&self, canvas: &mut impl Canvas) -> Result<(), PictureError> {
+        let sheet = self.sheet()?;
         canvas.text([24.0, 36.0], Anchor::Start, true, &self.title(), INK);
         canvas.text([24.0, 62.0], Anchor::Start, false, &self.facts(), FAINT);
         let mass = match self.mass {
@@ -438,10 +544,14 @@ impl Picture<'_> {
             Mass::Elliptic => "elliptic mass",
         };
         let cells: fn(&Sums) -> f64 = |column| f64::from(column.0);
-        let rows = [
-            (["occupied cells", "cells"], cells),
-            ([mass, "kg"], |column| column.1),
-        ];
+        let weighed: fn(&Sums) -> f64 = |column| column.1;
+        let rows = match self.slice {
+            None => vec![
+                (["occupied cells", "cells a column"], cells),
+                ([mass, "kg a column"], weighed),
+            ],
+            Some(_) => vec![([mass, "kg a cell"], weighed)],
+        };
         let mut top = TOP;
         for (names, value) in rows {
             sheet.row(canvas, top, names, value);
@@ -457,12 +567,15 @@ impl Picture<'_> {
 /// What is drawn, and where.
 struct Sheet {
     layout: Layout,
-    projections: [Projection; 3],
+    projections: Vec<Projection>,
+    slice: Option<Slice>,
     difference: Difference,
+    /// How many edited cells are not drawn.
+    elsewhere: usize,
 }
 
 impl Sheet {
-    /// The three projections of one quantity, side by side, and its colour scale.
+    /// The panels of one quantity, side by side, and its colour scale.
     fn row(&self, canvas: &mut impl Canvas, top: f64, names: [&str; 2], value: fn(&Sums) -> f64) {
         let columns = self.projections.iter().flat_map(|p| &p.columns);
         let range = columns
@@ -484,14 +597,7 @@ impl Sheet {
             let (w, h) = (self.layout.size(right), self.layout.size(up));
             // Panels stand on one line.
             let (x, y) = (left, top + self.layout.row() - h);
-            let area = Rect { x, y, w, h };
-            let along = AXES[3 - right - up];
-            let heading = format!("{}{} along {along}", AXES[right], AXES[up]);
-            canvas.text([x, y - 16.0], Anchor::Start, true, &heading, INK);
-            canvas.rects(&[area], GROUND);
-            self.axes(canvas, projection.axes, area);
-            self.cells(canvas, projection, area, level);
-            self.marks(canvas, projection.axes, area);
+            self.panel(canvas, projection, Rect { x, y, w, h }, level);
             left += w + self.layout.left + GAP;
         }
         // The scale stands right of the panels.
@@ -502,6 +608,30 @@ impl Sheet {
             h: self.layout.row(),
         };
         color_scale(canvas, bar, names, [low, high]);
+    }
+
+    fn panel(
+        &self,
+        canvas: &mut impl Canvas,
+        projection: &Projection,
+        area: Rect,
+        level: impl Fn(&Sums) -> usize,
+    ) {
+        let [right, up] = projection.axes;
+        let place = match self.slice {
+            None => format!("along {}", AXES[3 - right - up]),
+            Some(slice) => format!("at {slice}"),
+        };
+        let heading = format!("{}{} {place}", AXES[right], AXES[up]);
+        let above = [area.x, area.y - 16.0];
+        canvas.text(above, Anchor::Start, true, &heading, INK);
+        canvas.rects(&[area], GROUND);
+        self.axes(canvas, projection.axes, area);
+        self.cells(canvas, projection, area, level);
+        if self.slice.is_some() {
+            canvas.rects(&slice::outline(&self.layout, projection, area), INK);
+        }
+        self.marks(canvas, projection.axes, area);
     }
 
     fn axes(&self, canvas: &mut impl Canvas, [right, up]: [usize; 2], area: Rect) {
@@ -602,8 +732,11 @@ impl Sheet {
             canvas.text([x + 18.0, y], Anchor::Start, false, &text, INK);
             x += LETTER * text.len() as f64 + 60.0;
         }
-        let words = "cells; each column with one is marked";
-        canvas.text([x - 12.0, y], Anchor::Start, false, words, FAINT);
+        let words = match self.slice {
+            None => "cells; each column with one is marked".to_string(),
+            Some(_) => format!("in this layer; {} cells in others", self.elsewhere),
+        };
+        canvas.text([x - 12.0, y], Anchor::Start, false, &words, FAINT);
     }
 }
 
@@ -631,9 +764,8 @@ fn color_scale(
         canvas.rects(&[Rect { y, h, ..bar }], level_color(level));
     }
     canvas.text([bar.x, bar.y - 38.0], Anchor::Start, true, name, INK);
-    let each = format!("{unit} a column");
-    canvas.text([bar.x, bar.y - 16.0], Anchor::Start, false, &each, FAINT);
-    let whole = unit == "cells" && high < 5.0;
+    canvas.text([bar.x, bar.y - 16.0], Anchor::Start, false, unit, FAINT);
+    let whole = unit.starts_with("cells") && high < 5.0;
     let right = bar.x + bar.w;
     for (tick, label) in ticks(low, high, if whole { high.max(1.0) } else { 5.0 }) {
         let y = bar.y + bar.h - (tick - low) / (high - low) * bar.h;

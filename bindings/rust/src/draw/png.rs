@@ -20,6 +20,12 @@ impl Dots {
         }
     }
 
+    #[cfg(test)]
+    pub(super) fn color(&self, x: usize, y: usize) -> Color {
+        let at = 3 * (y * self.width + x);
+        Color([self.dots[at], self.dots[at + 1], self.dots[at + 2]])
+    }
+
     fn blend(&mut self, x: i64, y: i64, Color(color): Color, share: f64) {
         if (0..self.width as i64).contains(&x) && (0..self.height as i64).contains(&y) {
             let at = 3 * (y as usize * self.width + x as usize);

@@ -1,12 +1,12 @@
 //! Calls in other floating-point modes, and with NULL for what is empty.
 
 use super::mode::{in_default_mode, load, read};
-use super::raw;
+use super::{length, raw};
 use crate::check::{check_points, check_tree};
 use crate::text::{parse_kernels, parse_obj, Edit};
 use crate::{
-    build_mascon, draw, is_inside, narrow, parse_mascon_bytes, shapes, Kernel, Model, Tree,
-    Triangle,
+    build_mascon, draw, is_inside, narrow, parse_mascon_bytes, shapes, Kernel, Model, Refusal,
+    Tree, Triangle,
 };
 use std::hint::black_box;
 use std::panic::catch_unwind;
@@ -84,15 +84,15 @@ fn a_box_of_the_least_width_is_accepted_in_any_mode() {
 #[test]
 fn trees_are_the_same_in_any_mode() {
     let model = beside_ties();
-    let tree = model.tree();
+    let tree = model.tree().unwrap();
     let root = tree.root();
     let sums = (root.cauchy_mass, root.elliptic_mass);
     assert_eq!(sums, (1.0, 1.0 + 2.0_f32.powi(-22)));
     let body = Model::open(&small_body()).unwrap();
-    let whole = body.tree();
+    let whole = body.tree().unwrap();
     for mode in MODES.into_iter().chain(TRAPPING) {
-        assert_eq!(in_mode(mode, || model.tree()), tree);
-        assert_eq!(in_mode(mode, || body.tree()), whole);
+        assert_eq!(in_mode(mode, || model.tree()).unwrap(), tree);
+        assert_eq!(in_mode(mode, || body.tree()).unwrap(), whole);
         let bytes = whole.as_bytes().to_vec();
         assert_eq!(in_mode(mode, || Tree::open(bytes)).unwrap(), whole);
     }
@@ -238,7 +238,10 @@ fn without_the_default_mode_answers_differ() {
     assert_eq!(in_mode(TINY_IS_ZERO, || raw_build(&file)).0, 5);
     let model = beside_ties();
     let right = raw_build(model.as_bytes());
-    assert_eq!(right.1[..right.0 as usize], *model.tree().as_bytes());
+    assert_eq!(
+        right.1[..right.0 as usize],
+        *model.tree().unwrap().as_bytes()
+    );
     for mode in [UP, DOWN, TO_ZERO] {
         let other = in_mode(mode, || raw_build(model.as_bytes()));
         assert_eq!(other.0, right.0);
@@ -309,4 +312,21 @@ fn null_beside_others() {
     let (mesh, _) = shapes::contact_binary(6);
     let right = build_mascon(&mesh, &[], &[], 1e9, 1.0, 8).unwrap();
     assert_eq!(raw_fill(&mesh, null(), 0), right);
+}
+
+/// A number that a later library may answer is told, not a reason to panic.
+#[test]
+fn unknown_numbers_are_refusals() {
+    let known = Refusal::ALL.len() as u64;
+    for number in 0..64 {
+        let refusal = length(number).unwrap_err();
+        assert_eq!(refusal.number(), number);
+        let unknown = number == 0 || number > known;
+        assert_eq!(refusal == Refusal::Unknown(number), unknown, "{number}");
+    }
+    assert_eq!(
+        format!("{:?}", Refusal::Unknown(63)),
+        "refused 63: a cause that this crate does not know"
+    );
+    assert_eq!(length(64), Ok(64));
 }

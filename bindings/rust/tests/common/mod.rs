@@ -2,6 +2,7 @@
 #![allow(dead_code)]
 
 use std::path::{Path, PathBuf};
+use std::process::Command;
 
 /// Numbers that are the same on every run (SplitMix64).
 pub struct Rng(pub u64);
@@ -56,6 +57,49 @@ impl Drop for Folder {
     fn drop(&mut self) {
         let _ = std::fs::remove_dir_all(&self.0);
     }
+}
+
+/// What a run of the program gave; its status is -1 where it was killed.
+pub struct Ran {
+    pub status: i32,
+    pub out: String,
+    pub err: String,
+}
+
+/// The program with the words of a line, in a folder.
+pub fn command(folder: &Folder, line: &str) -> Command {
+    let mut command = Command::new(env!("CARGO_BIN_EXE_mascon"));
+    command
+        .args(line.split_whitespace())
+        .current_dir(folder.file(""));
+    command
+}
+
+pub fn run(mut command: Command) -> Ran {
+    let run = command.output().unwrap();
+    Ran {
+        status: run.status.code().unwrap_or(-1),
+        out: String::from_utf8(run.stdout).unwrap(),
+        err: String::from_utf8(run.stderr).unwrap(),
+    }
+}
+
+pub fn mascon(folder: &Folder, line: &str) -> Ran {
+    run(command(folder, line))
+}
+
+/// What a command that succeeds prints.
+pub fn done(folder: &Folder, line: &str) -> String {
+    let ran = mascon(folder, line);
+    assert_eq!(ran.status, 0, "{line}: {}", ran.err);
+    ran.out
+}
+
+/// A command that fails with this status and says these words.
+pub fn fails(folder: &Folder, line: &str, status: i32, words: &str) {
+    let ran = mascon(folder, line);
+    assert_eq!(ran.status, status, "{line}: {}{}", ran.out, ran.err);
+    assert!(ran.err.contains(words), "{line}: {}", ran.err);
 }
 
 /// A record of a point file.
