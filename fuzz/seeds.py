@@ -46,6 +46,7 @@ for place, block in enumerate(blocks("open", 4096)):
     file, scratch, room, journal, _ = words(block, 5)
     lengths = exact(scratch) + exact(room) + exact(journal) + bytes(3)
     save("open", bytes([2 | place & 1]) + lengths + raw(block[64 : 64 + file]))
+    save("fold", bytes([2 | place & 1]) + exact(scratch) + exact(room) + bytes(2) + raw(block[64 : 64 + file]))
 
 for place, block in enumerate(blocks("build", 8192)):
     file, scratch, room = words(block, 3)

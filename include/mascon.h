@@ -16,9 +16,9 @@
 
 /* The version of these declarations, the Rust crate's. While the first number is 0, the second changes where a call is new, is declared otherwise
    or answers otherwise. */
-#define MASCON_VERSION "0.1.0"
+#define MASCON_VERSION "0.2.0"
 #define MASCON_VERSION_MAJOR 0
-#define MASCON_VERSION_MINOR 1
+#define MASCON_VERSION_MINOR 2
 #define MASCON_VERSION_PATCH 0
 
 #ifdef __cplusplus
@@ -46,7 +46,8 @@ enum MasconCause {
     MASCON_OUT_OF_BOUNDS = 17, /* a list's length or a number outside its bounds */
     MASCON_TOO_MANY_POINTS = 18, /* more inside points than half the cells, rounded up */
     MASCON_FLAT_BOX = 19, /* box min is not below max after narrowing to binary32 */
-    MASCON_NOT_FINITE = 20 /* a float to be written is not finite */
+    MASCON_NOT_FINITE = 20, /* a float to be written is not finite */
+    MASCON_CELL_TWICE = 21 /* two records name one cell */
 };
 
 /* The pattern of the binary32 nearest to x, ties to even: below 2^32. Infinity with x's sign from magnitude 2^128 - 2^103 up;
@@ -81,11 +82,20 @@ uint64_t mascon_fill(uint32_t g, const uint8_t *triangles, size_t triangles_leng
 /* Opens a point file: its working form (one record per occupied cell, ascending by cell number, pad 0) into out, journal[0] = 0.
    Answers the length written, 64 + 16 per occupied cell, or a number below 64, the cause of a refusal:
    1 under 64 bytes, 2 word 0 or version, 3 grid, 4 records missing, 5 a header float, 6 a coordinate, 7 a mass,
-   8 scratch under grid^3 words, 9 out too short, 13 no journal word.
+   8 scratch under grid^3 words, 21 two records name one cell, 9 out too short, 13 no journal word, in this order.
    A refusal changes no byte of out and journal, and none of scratch where it is 1 to 8. out past the length, and the journal past
    its first word, are as they were; file is only read; scratch is free otherwise. The four do not overlap. */
 uint64_t mascon_open(const uint8_t *file, size_t file_length, uint32_t *scratch, size_t scratch_length,
                      uint8_t *out, size_t out_length, uint32_t *journal, size_t journal_length);
+
+/* Folds a point file in which records may name one cell: the later of them counts. Its working form into out, as mascon_open writes it, but
+   without a journal; a file without such records is sorted the same way.
+   Answers the length written, 64 + 16 per occupied cell, or a number below 64, the cause of a refusal: 1 to 7 as in mascon_open, 8 scratch
+   under grid^3 words, 9 out too short.
+   A refusal changes no byte of out, and none of scratch where it is 1 to 8. out past the length is as it was; file is only read; scratch is
+   free otherwise. The three do not overlap. */
+uint64_t mascon_fold(const uint8_t *file, size_t file_length, uint32_t *scratch, size_t scratch_length,
+                     uint8_t *out, size_t out_length);
 
 /* Puts masses into a cell of a file in working form, over its record or as a new one, and enters that in the journal. file is the whole
    buffer that open wrote into, journal the one that it set.
@@ -127,7 +137,7 @@ typedef struct {
 /* Builds the tree of a point file, in working form or not, into out: 64 bytes of header, 80 a node, 4 an occupied cell.
    Answers the length written, 64 + 80 * nodes + 4 * order, or a number below 64, the cause of a refusal:
    1 under 64 bytes, 2 word 0 or version, 3 grid, 4 records missing, 5 a header float, 6 a coordinate, 7 a mass,
-   8 scratch under grid^3 words, 9 out too short. 64 + 84 * grid^3 bytes are always enough.
+   8 scratch under grid^3 words, 21 two records name one cell, 9 out too short, in this order. 64 + 84 * grid^3 bytes are always enough.
    A refusal changes no byte of out, and none of scratch where it is 1 to 8. out past the length is as it was; file is only read;
    scratch is free otherwise. The three do not overlap. */
 MasconBuilt mascon_build(const uint8_t *file, size_t file_length, uint32_t *scratch, size_t scratch_length,

@@ -69,6 +69,22 @@ static void check_only_read(const Lent *lent) {
     check_kept(lent, 0, "only read");
 }
 
+/* What open, fold and build have in common after a call: the answer, and the file, scratch and output. */
+static void check_call(uint64_t answer, uint64_t right, uint32_t causes, size_t entry) {
+    check_only_read(&file);
+    check_canaries(&scratch);
+    check_canaries(&out);
+    check_possible(answer, CAUSES_1_TO_7 | CAUSE(8) | CAUSE(9) | causes, out.length, entry);
+    check_answer(answer, right);
+    if (answer < 64) {
+        check_kept(&out, 0, "refused");
+        if (answer <= 8) check_kept(&scratch, 0, "refused by 1 to 8");
+    } else {
+        check_bytes(&out, want, 0, answer, "written");
+        check_kept(&out, answer, "past the length");
+    }
+}
+
 /* Opens what stands in `file`, with `scratch`, `out` and `journal` as lent, and checks all of it. */
 static uint64_t open_checked(void) {
     const char *before = under_test;
@@ -77,22 +93,27 @@ static uint64_t open_checked(void) {
     uint64_t answer = mascon_open(given(&file, file.length), file.length, given(&scratch, scratch.length), scratch.length / 4,
                                   given(&out, out.length), out.length, given(&journal, journal.length), journal.length / 4);
     count(CALL_open, answer >= 64);
-    check_only_read(&file);
-    check_canaries(&scratch);
-    check_canaries(&out);
     check_canaries(&journal);
-    check_possible(answer, CAUSES_1_TO_7 | CAUSE(8) | CAUSE(9) | CAUSE(13), out.length, 16);
-    check_answer(answer, right);
+    check_call(answer, right, CAUSE(21) | CAUSE(13), 16);
     if (answer < 64) {
-        check_kept(&out, 0, "refused");
         check_kept(&journal, 0, "refused");
-        if (answer <= 8) check_kept(&scratch, 0, "refused by 1 to 8");
     } else {
-        check_bytes(&out, want, 0, answer, "written");
-        check_kept(&out, answer, "past the length");
         if (get32(journal.at) != 0) fail("journal[0] is %u", get32(journal.at));
         check_kept(&journal, 4, "past word 0");
     }
+    under_test = before;
+    return answer;
+}
+
+/* Folds what stands in `file`, with `scratch` and `out` as lent, and checks all of it. */
+static uint64_t fold_checked(void) {
+    const char *before = under_test;
+    under_test = "fold";
+    uint64_t right = rule_fold(file.at, file.length, scratch.length / 4, out.length, want, keys);
+    uint64_t answer = mascon_fold(given(&file, file.length), file.length, given(&scratch, scratch.length), scratch.length / 4,
+                                  given(&out, out.length), out.length);
+    count(CALL_fold, answer >= 64);
+    check_call(answer, right, 0, 16);
     under_test = before;
     return answer;
 }
@@ -106,22 +127,13 @@ static uint64_t build_checked(void) {
     MasconBuilt built = mascon_build(given(&file, file.length), file.length, given(&scratch, scratch.length), scratch.length / 4,
                                      given(&out, out.length), out.length);
     count(CALL_build, built.answer >= 64);
-    check_only_read(&file);
-    check_canaries(&scratch);
-    check_canaries(&out);
-    check_possible(built.answer, CAUSES_1_TO_7 | CAUSE(8) | CAUSE(9), out.length, 4);
-    check_answer(built.answer, right);
+    check_call(built.answer, right, CAUSE(21), 4);
     if (built.nodes != nodes || built.order != ordered)
         fail("%llu nodes and %llu order words, not %llu and %llu", (unsigned long long)built.nodes, (unsigned long long)built.order,
              (unsigned long long)nodes, (unsigned long long)ordered);
-    if (built.answer < 64) {
-        check_kept(&out, 0, "refused");
-        if (built.answer <= 8) check_kept(&scratch, 0, "refused by 1 to 8");
-    } else {
+    if (built.answer >= 64) {
         if (built.answer != 64 + 80 * built.nodes + 4 * built.order) fail("the length is not that of the counts");
         if (built.nodes >= 2 * cube(get32(file.at + 8))) fail("too many nodes");
-        check_bytes(&out, want, 0, built.answer, "written");
-        check_kept(&out, built.answer, "past the length");
     }
     under_test = before;
     return built.answer;
@@ -138,7 +150,7 @@ static void builds(const uint8_t *bytes, size_t length, bool at_end) {
     if (build_checked() < 64) fail("build refuses what is accepted");
 }
 
-/* Opened again, an opened file gives the same bytes, with exactly its length lent. */
+/* Opened again, an opened or folded file gives the same bytes, with exactly its length lent. */
 static void reopens(const uint8_t *bytes, size_t length, bool at_end) {
     uint64_t cells = cube(get32(bytes + 8));
     if (cells > MOST_SCRATCH) return;
@@ -289,20 +301,47 @@ void case_open(const uint8_t *bytes, size_t length) {
     if (flags & 2) builds(opened, answer, at_end);
 }
 
-void case_build(const uint8_t *bytes, size_t length) {
-    ready("build");
+/* What a tree of the input file needs; 144 where it has none. */
+static uint64_t tree_needs(size_t length) {
+    uint64_t nodes, ordered;
+    if (rule_judge(input_file, length) != 0 || cube(get32(input_file + 8)) > MOST_SCRATCH) return 144;
+    uint64_t need = rule_build(input_file, length, MOST_SCRATCH, SIZE_MAX, want, lookup, order, &nodes, &ordered);
+    return need < 64 ? 144 : need;
+}
+
+/* What the folded input file needs; 80 where it has none. */
+static uint64_t folded_needs(size_t length) {
+    return rule_judge(input_file, length) == 0 ? 64 + 16 * rule_occupied(input_file, keys) : 80;
+}
+
+/* An input file with scratch and output near what is needed, lent; answers the first byte. */
+static uint8_t lend_near(const uint8_t *bytes, size_t length, uint64_t (*needs)(size_t)) {
     In in = {bytes, bytes + length};
-    bool at_end = u8(&in) & 1;
-    uint8_t lengths[12];
+    uint8_t flags = u8(&in), lengths[12]; // lengths stand before the file, whose own takes the rest
+    bool at_end = flags & 1;
     take(&in, lengths, sizeof lengths);
     In of = {lengths, lengths + sizeof lengths};
     size_t file_length = point_file(&in, input_file, MOST_FILE);
-    bool judged = rule_judge(input_file, file_length) == 0;
-    uint64_t cells = judged ? cube(get32(input_file + 8)) : 64, nodes = 1, ordered = 1, need = 144;
-    if (judged && cells <= MOST_SCRATCH) need = rule_build(input_file, file_length, cells, SIZE_MAX, want, lookup, order, &nodes, &ordered);
+    uint64_t cells = rule_judge(input_file, file_length) == 0 ? cube(get32(input_file + 8)) : 64;
     lend_bytes(&file, input_file, file_length, at_end);
     lend_junk(&scratch, 4 * length_near(&of, cells, MOST_SCRATCH), at_end, 1);
-    lend_junk(&out, length_near(&of, need, MOST_OUT), at_end, 2);
+    lend_junk(&out, length_near(&of, needs(file_length), MOST_OUT), at_end, 2);
+    return flags;
+}
+
+void case_fold(const uint8_t *bytes, size_t length) {
+    ready("fold");
+    uint8_t flags = lend_near(bytes, length, folded_needs);
+    uint64_t answer = fold_checked();
+    if (answer < 64) return;
+    memcpy(opened, out.at, answer);
+    reopens(opened, answer, flags & 1);
+    if (flags & 2) builds(opened, answer, flags & 1);
+}
+
+void case_build(const uint8_t *bytes, size_t length) {
+    ready("build");
+    lend_near(bytes, length, tree_needs);
     build_checked();
 }
 
@@ -380,13 +419,26 @@ void case_put(const uint8_t *bytes, size_t length) { ready("put"); case_edit(byt
 void case_remove(const uint8_t *bytes, size_t length) { ready("remove"); case_edit(bytes, length, REMOVE); }
 void case_undo(const uint8_t *bytes, size_t length) { ready("undo"); case_edit(bytes, length, UNDO); }
 
-/* Opens a file into a buffer with so many bytes to spare. Answers the length, below 64 where it is refused. */
+/* Folds what stands in `input_file`, with just enough lent; what comes out stands there afterwards. Answers its length. */
+static size_t fold_input(size_t length, uint64_t cells, bool at_end) {
+    lend_bytes(&file, input_file, length, at_end);
+    lend_junk(&scratch, 4 * cells, at_end, 1);
+    lend_junk(&out, folded_needs(length), at_end, 2);
+    uint64_t answer = fold_checked();
+    if (answer < 64) fail("fold refuses what is accepted");
+    memcpy(input_file, out.at, answer);
+    return answer;
+}
+
+/* Opens a file, folded where a cell is named twice, into a buffer with so many bytes to spare. Answers the length, below 64 where it is
+   refused. */
 static uint64_t open_to_edit(In *in, size_t spare, size_t words, uint8_t flags) {
     bool at_end = flags & 1;
     size_t file_length = point_file(in, input_file, MOST_FILE);
     bool judged = rule_judge(input_file, file_length) == 0;
     uint64_t cells = judged ? cube(get32(input_file + 8)) : 1, occupied = judged ? rule_occupied(input_file, keys) : 0;
     bool held = cells <= MOST_SCRATCH;
+    if (judged && held && occupied < get32(input_file + 12)) file_length = fold_input(file_length, cells, at_end);
     lend_bytes(&file, input_file, file_length, at_end);
     lend_junk(&scratch, 4 * (held ? cells : MOST_SCRATCH), at_end, 1);
     lend_junk(&out, 64 + 16 * occupied + spare, at_end, flags);

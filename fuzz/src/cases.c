@@ -22,8 +22,8 @@ typedef struct {
 } Target;
 
 static const Target targets[] = {
-    {"narrow", case_narrow, 10}, {"inside", case_inside, 14}, {"fill", case_fill, 10}, {"open", case_open, 12},       {"build", case_build, 12},
-    {"put", case_put, 10},       {"remove", case_remove, 10}, {"undo", case_undo, 10}, {"history", case_history, 12},
+    {"narrow", case_narrow, 9}, {"inside", case_inside, 13}, {"fill", case_fill, 10},    {"open", case_open, 11}, {"fold", case_fold, 9},
+    {"build", case_build, 11},  {"put", case_put, 9},        {"remove", case_remove, 8}, {"undo", case_undo, 8},  {"history", case_history, 12},
 };
 #define TARGETS (sizeof targets / sizeof *targets)
 
@@ -135,8 +135,9 @@ static size_t generated(const Target *target, const Corpus *corpus, uint8_t *byt
         uint64_t r = next();
         bytes[i] = (uint8_t)(calm && r >> 62 ? (r >> 61 & 1 ? 0 : r >> 8 & 15) : r);
     }
-    if (calm && (target->make == case_open || target->make == case_build)) memset(bytes + 1, 0, 12); // all lengths as needed
-    size_t at = target->make == case_open ? 19 : target->make == case_build ? 13 : target->make == case_history ? 3 : target->make == case_fill ? 2 : 1;
+    bool near = target->make == case_fold || target->make == case_build;
+    if (calm && (target->make == case_open || near)) memset(bytes + 1, 0, 12); // all lengths as needed
+    size_t at = target->make == case_open ? 19 : near ? 13 : target->make == case_history ? 3 : target->make == case_fill ? 2 : 1;
     if (calm && at < length) bytes[at] = (uint8_t)(next() & 0xe0) | 1 | (below(4) ? 0 : (uint8_t)below(32)); // fields, mostly undamaged
     return length;
 }

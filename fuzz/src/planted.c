@@ -6,6 +6,13 @@ static uint32_t word(const uint8_t *at) { uint32_t v; memcpy(&v, at, 4); return 
 static void set_word(uint8_t *at, uint32_t v) { memcpy(at, &v, 4); }
 static int fault(int n) { return FAULT == n; }
 
+// Whether a record names the cell of the one before it.
+static int neighbours(const uint8_t *file) {
+    for (const uint8_t *record = file + 80; record < file + 64 + 16ull * word(file + 12); record += 16)
+        if (memcmp(record, record - 16, 6) == 0) return 1;
+    return 0;
+}
+
 uint64_t __real_mascon_narrow(double x);
 uint64_t __wrap_mascon_narrow(double x) {
     uint64_t answer = __real_mascon_narrow(x), bits;
@@ -54,7 +61,24 @@ uint64_t __wrap_mascon_open(const uint8_t *file, size_t file_length, uint32_t *s
     if (fault(24) && answer >= 64 && word(file + 12) == 29 && word(file + 8) == 7) out[answer - 1] ^= 1; // one grid and count
     if (fault(12) && answer >= 64 && journal_length > 1) journal[1] = 0;
     if (fault(31) && answer == 9 && journal_length == 0) answer = 13;
+    if (fault(35) && answer == 21 && journal_length == 0) answer = 13;
+    if (fault(36) && answer == 21 && !neighbours(file)) answer = mascon_fold(file, file_length, scratch, scratch_length, out, out_length);
     (void)seen;
+    return answer;
+}
+
+uint64_t __real_mascon_fold(const uint8_t *file, size_t file_length, uint32_t *scratch, size_t scratch_length, uint8_t *out, size_t out_length);
+uint64_t __wrap_mascon_fold(const uint8_t *file, size_t file_length, uint32_t *scratch, size_t scratch_length, uint8_t *out, size_t out_length) {
+    uint64_t answer = __real_mascon_fold(file, file_length, scratch, scratch_length, out, out_length);
+    uint32_t n = answer >= 64 || answer == 9 ? word(file + 12) : 0;
+    if (fault(37) && answer >= 64 && word(out + 12) < n) answer = 21;
+    if (fault(38) && answer >= 64 && out_length < 64 + 16ull * n) answer = 9; // by the records
+    if (fault(39) && answer >= 64) memcpy(out + 12, file + 12, 4);
+    if (fault(40) && answer > 64 && n == 1) memcpy(out + 70, file + 70, 2);
+    if (fault(41) && answer == 80 && n > 1) memcpy(out + 72, file + 72, 8); // the first record's masses
+    if (fault(42) && answer >= 64) memset(out + 56, 0, 8);
+    if (fault(43) && answer == 8 && scratch_length) scratch[0] ^= 1;
+    if (fault(44) && answer == 9 && out_length) out[out_length - 1] ^= 1;
     return answer;
 }
 
@@ -63,6 +87,7 @@ uint64_t __wrap_mascon_put(uint8_t *file, size_t file_length, uint32_t *journal,
     uint64_t answer = __real_mascon_put(file, file_length, journal, journal_length, x, y, z, cauchy, elliptic);
     if (fault(13) && answer >= 64 && journal[3 * journal[0] - 2] >> 30 == 2) journal[3 * journal[0]] = 0; // the mass before is lost
     if (fault(14) && answer == 14) journal[0] = 0;
+    if (fault(45) && answer == 10 && neighbours(file)) answer = 21;
     if (fault(32) && answer == 13 && file_length < 80 + 16ull * word(file + 12)) answer = 14;
     if (fault(23) && answer >= 64 && x == 5 && y == 1 && z == 4 && cauchy == 3.0f) file[24] ^= 1; // one cell and mass
     return answer;
@@ -98,6 +123,8 @@ MasconBuilt __wrap_mascon_build(const uint8_t *file, size_t file_length, uint32_
         set_word(out + built.answer - 8, last);
     }
     if (fault(21) && built.answer == 9 && out_length) out[0] ^= 1;
+    if (fault(46) && built.answer == 21 && out_length < 144) built.answer = 9;
+    if (fault(47) && built.answer == 21 && out_length) out[0] ^= 1;
     if (fault(34) && built.answer == 9) built.nodes = built.order = 1;
     if (fault(22) && built.answer >= 64 && file_length > 64) ((uint8_t *)file)[28] ^= 1; // what is only read
     return built;

@@ -65,6 +65,12 @@ static unsigned rule_judge(const uint8_t *file, size_t length) {
     return 0;
 }
 
+/* Causes 1 to 7 and 8, 0 for none: what open, fold and build have in common. */
+static unsigned rule_judge_lent(const uint8_t *file, size_t length, size_t scratch) {
+    unsigned cause = rule_judge(file, length);
+    return cause ? cause : scratch < cube(get32(file + 8)) ? 8 : 0;
+}
+
 static uint32_t cell_number(uint32_t g, uint32_t x, uint32_t y, uint32_t z) { return (z * g + y) * g + x; }
 
 static uint32_t record_cell(const uint8_t *file, uint64_t i) {
@@ -100,14 +106,8 @@ static size_t rule_occupied(const uint8_t *file, uint64_t *keys) {
     return kept;
 }
 
-/* Opening: the answer; where it is accepted, the file in `want`. */
-static uint64_t rule_open(const uint8_t *file, size_t length, size_t scratch, size_t room, size_t journal, uint8_t *want, uint64_t *keys) {
-    unsigned cause = rule_judge(file, length);
-    if (cause) return cause;
-    if (scratch < cube(get32(file + 8))) return 8;
-    size_t n = rule_occupied(file, keys);
-    if (room < 64 + 16 * n) return 9;
-    if (journal < 1) return 13;
+/* The working form with these records of a file; answers its length. */
+static uint64_t rule_written(const uint8_t *file, const uint64_t *keys, size_t n, uint8_t *want) {
     memcpy(want, file, 64);
     set32(want + 12, (uint32_t)n);
     for (size_t i = 0; i < n; i++) {
@@ -115,6 +115,26 @@ static uint64_t rule_open(const uint8_t *file, size_t length, size_t scratch, si
         set16(want + 64 + 16 * i + 6, 0);
     }
     return 64 + 16 * n;
+}
+
+/* Opening: the answer; where it is accepted, the file in `want`. */
+static uint64_t rule_open(const uint8_t *file, size_t length, size_t scratch, size_t room, size_t journal, uint8_t *want, uint64_t *keys) {
+    unsigned cause = rule_judge_lent(file, length, scratch);
+    if (cause) return cause;
+    size_t n = rule_occupied(file, keys);
+    if (n < get32(file + 12)) return 21;
+    if (room < 64 + 16 * n) return 9;
+    if (journal < 1) return 13;
+    return rule_written(file, keys, n, want);
+}
+
+/* Folding: the same, but that of a cell's records the last counts. */
+static uint64_t rule_fold(const uint8_t *file, size_t length, size_t scratch, size_t room, uint8_t *want, uint64_t *keys) {
+    unsigned cause = rule_judge_lent(file, length, scratch);
+    if (cause) return cause;
+    size_t n = rule_occupied(file, keys);
+    if (room < 64 + 16 * n) return 9;
+    return rule_written(file, keys, n, want);
 }
 
 enum { PUT, REMOVE, UNDO };
@@ -274,12 +294,15 @@ static uint32_t rule_node(Tree *tree, const uint32_t low[3], const uint32_t high
 static uint64_t rule_build(const uint8_t *file, size_t length, size_t scratch, size_t room, uint8_t *want, uint32_t *lookup,
                            uint32_t *order, uint64_t *nodes, uint64_t *ordered) {
     *nodes = *ordered = 0;
-    unsigned cause = rule_judge(file, length);
+    unsigned cause = rule_judge_lent(file, length, scratch);
     if (cause) return cause;
     uint32_t g = get32(file + 8), n = get32(file + 12);
-    if (scratch < cube(g)) return 8;
     memset(lookup, 0, cube(g) * sizeof *lookup);
-    for (uint32_t i = 0; i < n; i++) lookup[record_cell(file, i)] = i + 1;
+    for (uint32_t i = 0; i < n; i++) {
+        uint32_t *held = &lookup[record_cell(file, i)];
+        if (*held) return 21;
+        *held = i + 1;
+    }
     Tree tree = {.file = file, .lookup = lookup, .out = want, .order = order, .g = g};
     for (int a = 0; a < 3; a++) {
         tree.min[a] = getf(file + 32 + 4 * a);

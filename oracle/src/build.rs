@@ -7,7 +7,7 @@ pub(crate) mod plain;
 use crate::ffi::{self, Built};
 use crate::lent::Buffers;
 use crate::open::cases::Case;
-use crate::open::{lay, scratch_word};
+use crate::open::{lay, unlike};
 use crate::original::{self, Verdict};
 use crate::points::{point_file, record, Header, Record};
 use crate::report::Report;
@@ -55,11 +55,7 @@ impl search::Desk for Desk {
         if got != want {
             return Some(format!("library answers {got}, rule {want}"));
         }
-        let before = |at| scratch_word(case.junk, at);
-        first("output byte", self.lent.out.slice(), &self.want_out)
-            .or_else(|| first("byte of the file lent", self.lent.file.slice(), &case.file))
-            .or_else(|| self.lent.broken())
-            .or_else(|| self.lent.scratched(want.answer, before))
+        unlike(case, &self.lent, want.answer, &self.want_out)
             .map(|what| format!("answer {want}, {what}"))
     }
 
@@ -135,6 +131,15 @@ fn refused(file: Vec<u8>, grid: usize, records: usize) -> Case {
     case
 }
 
+/// Cell 1 of g 2 twice, with so many words of scratch and bytes of output.
+fn twice(scratch: usize, out: usize) -> Case {
+    Case {
+        scratch,
+        out,
+        ..just(of_cells(2, [1, 1].into_iter()))
+    }
+}
+
 /// Cells at random, each at most once, about one in `share`.
 fn one_in(g: u64, share: u64) -> impl Iterator<Item = u64> {
     let mut rng = Rng::new(g * share);
@@ -149,40 +154,61 @@ fn answer(answer: u64, nodes: u64, order: u64) -> Option<Built> {
     })
 }
 
-fn fixed() -> Vec<Fixed<Desk>> {
-    let outside = point_file(Header::cube(192, 1.0), &[record([192, 5, 0], 1)]);
-    let grid_257 = point_file(Header::cube(257, 1.0), &[]);
-    let of_none = |g: u32| just(of_cells(g, 0..0));
-    let mut short = of_none(256);
-    short.scratch -= 1;
-    let corner = [0, 1, 4, 5, 16, 17, 20, 21, 12].into_iter();
+/// Trees of known counts, and some that only the rule tells.
+fn fixed_trees() -> Vec<Fixed<Desk>> {
+    let of = |g, numbers: &[u64]| just(of_cells(g, numbers.iter().copied()));
+    let corner = [0, 1, 4, 5, 16, 17, 20, 21, 12];
+    let far = [0, 65_536];
+    let full_8 = just(of_cells(8, 0..512));
     vec![
-        ("g 1, no record", of_none(1), answer(144, 1, 0)),
-        (
-            "g 1, one record",
-            just(of_cells(1, 0..1)),
-            answer(148, 1, 1),
-        ),
+        ("g 1, no record", of(1, &[]), answer(144, 1, 0)),
+        ("g 1, one record", of(1, &[0]), answer(148, 1, 1)),
         ("g 2, full", just(of_cells(2, 0..8)), answer(176, 1, 8)),
         ("g 3, a plane", just(of_cells(3, 0..9)), answer(340, 3, 9)),
+        ("g 4, a corner", of(4, &corner), answer(500, 5, 9)),
+        ("g 256, no record", of(256, &[]), answer(144, 1, 0)),
+        ("g 8, full", full_8, answer(64 + 80 * 127 + 2048, 127, 512)),
+        ("g 64, cells 0 and 65,536", of(64, &far), answer(152, 1, 2)),
         (
-            "g 4, a corner",
-            just(of_cells(4, corner)),
-            answer(500, 5, 9),
-        ),
-        ("(192, 5, 0)", refused(outside, 192, 1), answer(6, 0, 0)),
-        ("g 257", refused(grid_257, 257, 0), answer(3, 0, 0)),
-        ("g 256, no record", of_none(256), answer(144, 1, 0)),
-        ("a word short at g 256", short, answer(8, 0, 0)),
-        (
-            "g 8, full",
-            just(of_cells(8, 0..512)),
-            answer(64 + 80 * 127 + 2048, 127, 512),
+            "g 256, cells 0 and 65,536",
+            of(256, &far),
+            answer(152, 1, 2),
         ),
         ("g 64, full", just(of_cells(64, 0..1 << 18)), None),
         ("g 192, thin", just(of_cells(192, one_in(192, 70))), None),
         ("g 256, thin", just(of_cells(256, one_in(256, 900))), None),
     ]
+}
+
+/// Refusals, a cell named twice among them: with each buffer short or both enough, by more records than cells, by the first and the last of
+/// 100,000 records.
+fn fixed_refusals() -> Vec<Fixed<Desk>> {
+    let outside = point_file(Header::cube(192, 1.0), &[record([192, 5, 0], 1)]);
+    let grid_257 = point_file(Header::cube(257, 1.0), &[]);
+    let mut short = just(of_cells(256, 0..0));
+    short.scratch -= 1;
+    let one_cell = just(of_cells(1, [0, 0].into_iter()));
+    let many = (0..100_000).map(|number| number * 77 % 99_999);
+    let cases = [
+        ("(192, 5, 0)", refused(outside, 192, 1), 6),
+        ("g 257", refused(grid_257, 257, 0), 3),
+        ("a word short at g 256", short, 8),
+        ("a cell twice", twice(8, 148), 21),
+        ("a cell twice, 147 bytes", twice(8, 147), 21),
+        ("a cell twice, no room", twice(8, 0), 21),
+        ("a cell twice, a word short", twice(7, 148), 8),
+        ("a cell twice, no scratch", twice(0, 0), 8),
+        ("g 1, two records", one_cell, 21),
+        ("100,000 records", just(of_cells(192, many)), 21),
+    ];
+    let cases = cases.into_iter();
+    cases
+        .map(|(name, case, cause)| (name, case, Some(Built::refused(cause))))
+        .collect()
+}
+
+fn fixed() -> impl Iterator<Item = Fixed<Desk>> {
+    fixed_trees().into_iter().chain(fixed_refusals())
 }
 
 pub(crate) fn check(report: &mut Report) {
@@ -194,11 +220,15 @@ mod tests {
     use super::plain::{plain_build, Fault, FAULTS};
     use super::*;
     use crate::open::cases::{Kind, DAMAGE_ANSWERS};
+    use crate::open::plain::Twice;
     use crate::search::{compare, compare_fixed, named, tally};
     use std::collections::{BTreeMap, BTreeSet};
 
-    /// Cases of each kind that a test looks at.
+    /// A kind of fewer cases is slow.
     const FEW: u64 = 1000;
+
+    /// Cases of each kind whose answers a test counts.
+    const MORE: u64 = 4000;
 
     fn kind(name: &str) -> (u64, &'static Kind) {
         named(name, SEED, &KINDS)
@@ -217,7 +247,7 @@ mod tests {
     /// The rule's answers on the first cases of a kind.
     fn answers(name: &str) -> BTreeMap<u64, u64> {
         let (seed, kind) = kind(name);
-        tally((0..FEW).map(|number| {
+        tally((0..MORE).map(|number| {
             let case = kind.case(seed, number);
             let mut out = vec![0; case.out];
             let built = rule::tree::build(&case.file, case.scratch as u64, &mut out);
@@ -234,21 +264,26 @@ mod tests {
             "cancelling masses",
             "extreme masses",
             "uneven boxes",
-            "repeated cells",
             "junk not read",
         ] {
-            assert_eq!(answers(name), BTreeMap::from([(64, FEW)]), "{name}");
+            assert_eq!(answers(name), BTreeMap::from([(64, MORE)]), "{name}");
         }
+        let all_21 = BTreeMap::from([(21, MORE)]);
+        assert_eq!(answers("repeated cells"), all_21);
         let only = |name: &str, wanted: &[u64]| {
             let seen = answers(name);
             assert!(seen.keys().eq(wanted), "{name}: {seen:?}");
         };
         for (name, wanted) in DAMAGE_ANSWERS {
-            only(name, wanted);
+            // The tree of a record in another cell may be too long, seldom.
+            let mut seen = answers(name);
+            let longer = seen.remove(&9).unwrap_or(0);
+            assert!(longer < 10 && seen.keys().eq(wanted), "{name}: {seen:?}");
         }
-        only("scratch lengths", &[8, 9, 64]);
-        only("output lengths", &[9, 64]);
-        only("several causes", &[1, 2, 3, 4, 5, 6, 7, 8, 9, 64]);
+        only("21 and short buffers", &[8, 21]);
+        only("scratch lengths", &[8, 9, 21, 64]);
+        only("output lengths", &[9, 21, 64]);
+        only("several causes", &[1, 2, 3, 4, 5, 6, 7, 8, 9, 21, 64]);
     }
 
     #[test]
@@ -310,13 +345,8 @@ mod tests {
             let kinds = found(faulty);
             assert!(kinds.contains(&name), "fault {number}: {kinds:?}");
         }
-        let header: Build = |f, s, o| plain_build(Fault::HeaderHasOrderCount, f, s, o);
-        let (seed, repeated) = kind("repeated cells");
-        let found = compare::<Desk>(header, seed, repeated, 100);
-        assert_eq!(found.mismatches, 100);
-        let (seed, every) = kind("every grid size");
-        let found = compare::<Desk>(header, seed, every, 100);
-        assert_eq!(found.mismatches, 0);
+        let cut: Build = |f, s, o| plain_build(Fault::Twice(Twice::ByCell16), f, s, o);
+        assert!(compare_fixed::<Desk>(cut, fixed()).mismatches > 0);
     }
 
     /// Made-up faults of a call are found, and where they should be.

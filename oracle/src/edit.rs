@@ -443,13 +443,14 @@ pub(crate) fn small_fixed() -> Vec<Fixed> {
     all
 }
 
-/// The fixed cases that need much; a journal of 2^24 entries has 200 million bytes.
-fn large_fixed() -> Vec<Fixed> {
+/// The fixed cases that are not stored: most need much, a journal of 2^24 entries has 200 million bytes.
+fn other_fixed() -> Vec<Fixed> {
     let at_the_end = [13, 13, 64, 12, 80, 13];
     let entries = |e: u32, room: u32| move || full_of_entries(e, room, at_the_greatest_count());
     let most = GREATEST_COUNT;
     let after = [1, 0, 1, 2, 1, 2, 1, 0, 1, 0].map(|more| 64 + 16 * (101_112 + more));
     vec![
+        fixed("a cell twice", &[10; 7], || with_later_causes([5, 5], &[])),
         fixed("101,112 records", &after, many_records),
         fixed("2^24 entries", &at_the_end, entries(most, most)),
         fixed("room for more", &at_the_end, entries(most, most + 1)),
@@ -460,7 +461,7 @@ fn large_fixed() -> Vec<Fixed> {
 /// The fixed cases; answers that are known are asked of the rule too.
 fn compare_fixed(edit: Edit) -> Search {
     let mut search = Search::default();
-    let all = small_fixed().into_iter().chain(large_fixed());
+    let all = small_fixed().into_iter().chain(other_fixed());
     for (number, fixed) in (0..).zip(all) {
         let (name, case) = (fixed.name, (fixed.case)());
         visit(&mut search, &mut Desk::new(), edit, name, number, case);
@@ -642,7 +643,8 @@ mod tests {
             let endless = [a, b].iter().any(|mass| mass & 0x7f80_0000 == 0x7f80_0000);
             let outside = (head & 0x00ff_ffff) as usize >= case.grid.pow(3);
             let number = u64::from(head & 0x00ff_ffff);
-            let occupied = rule::cells(&case.file).contains_key(&number);
+            let mut cells = rule::cells(&case.file).into_iter();
+            let occupied = cells.any(|(cell, _)| cell == number);
             let way = match (head & 0x3f00_0000 != 0, outside, endless, occupied) {
                 (false, false, false, true) => "occupied",
                 (false, false, false, false) => "empty",
@@ -668,7 +670,7 @@ mod tests {
         assert!(met((3, "empty", 14)), "{seen:?}");
     }
 
-    /// Lengths 0 to 200, all grid sizes asked for, repeated cells in some of the files.
+    /// Lengths 0 to 200, all grid sizes asked for; no file names a cell twice, some are not in cell order.
     #[test]
     fn histories_are_of_every_size() {
         let of = |name: &str| {
@@ -687,11 +689,10 @@ mod tests {
         assert!([64, 192, 256].iter().all(|grid| grids.contains(grid)));
         let grids: BTreeSet<usize> = of("short histories").map(|history| history.grid).collect();
         assert!(grids.into_iter().eq(1..13));
-        let repeated = |history: &History| {
-            let n = u32::from_le_bytes([12, 13, 14, 15].map(|at| history.file[at]));
-            rule::cells(&history.file).len() < n as usize
-        };
-        assert!(of("short histories").filter(repeated).count() > 300);
+        let twice = |name: &str| of(name).any(|history| rule::names_one_twice(&history.file));
+        assert!(!HISTORIES.iter().any(|kind| twice(kind.name)));
+        let unsorted = |history: &History| !rule::working(&history.file);
+        assert!(of("short histories").filter(unsorted).count() > 300);
         let total: u64 = HISTORIES.iter().map(|kind| kind.cases).sum();
         assert!(total >= 120_000);
     }
@@ -748,12 +749,6 @@ mod tests {
     /// Faults of open and of build are found from the register's side.
     #[test]
     fn faults_beside_the_edits_are_found() {
-        let first_record_counts: Open = |file, scratch, out, journal| {
-            let mut turned = file.to_vec();
-            let n = u32::from_le_bytes([12, 13, 14, 15].map(|at| file[at])) as usize;
-            turned[64..64 + 16 * n].as_chunks_mut::<16>().0.reverse();
-            ffi::open(&turned, scratch, out, journal)
-        };
         let journal_kept: Open = |file, scratch, out, journal| {
             let word = journal[0];
             let answer = ffi::open(file, scratch, out, journal);
@@ -767,10 +762,6 @@ mod tests {
         };
         let (seed, kind) = history_kind("short histories");
         for library in [
-            Library {
-                open: first_record_counts,
-                ..LIBRARY
-            },
             Library {
                 open: journal_kept,
                 ..LIBRARY
@@ -815,7 +806,7 @@ mod tests {
         let what = compare(with(wrong), seed, kind, 900).found();
         assert_eq!((what.cases.all(), what.mismatches), (900, 800));
         let what = what.smallest.expect("a mismatch");
-        assert!(what.contains(", opened 64, file "), "{what}");
+        assert!(what.contains(", opened 80, file 80, journal 1, "), "{what}");
         assert!(what.contains("call 1: "), "{what}");
         assert!(what.contains("library answers 5, rule "), "{what}");
         let calls = [Call::Undo; 9];

@@ -17,6 +17,15 @@ unsafe extern "C" {
         journal_len: usize,
     ) -> u64;
 
+    fn mascon_fold(
+        file: *const u8,
+        file_len: usize,
+        scratch: *mut u32,
+        scratch_len: usize,
+        out: *mut u8,
+        out_len: usize,
+    ) -> u64;
+
     fn mascon_put(
         file: *mut u8,
         file_len: usize,
@@ -115,6 +124,21 @@ pub(crate) fn open(file: &[u8], scratch: &mut [u32], out: &mut [u8], journal: &m
             out.len(),
             journal.as_mut_ptr(),
             journal.len(),
+        )
+    }
+}
+
+/// Folds a point file in which records may name one cell: the length written, or the number of a cause.
+pub(crate) fn fold(file: &[u8], scratch: &mut [u32], out: &mut [u8]) -> u64 {
+    // SAFETY: as in `open`.
+    unsafe {
+        mascon_fold(
+            file.as_ptr(),
+            file.len(),
+            scratch.as_mut_ptr(),
+            scratch.len(),
+            out.as_mut_ptr(),
+            out.len(),
         )
     }
 }

@@ -31,13 +31,14 @@ use std::path::Path;
 use std::process::ExitCode;
 
 const USAGE: &str =
-    "usage: oracle check [all|narrow|open|build|edit|fill|inside|stored|treeinfo|original]
+    "usage: oracle check [all|narrow|open|fold|build|edit|fill|inside|stored|treeinfo|original]
        oracle store narrow|open|build|edit|ray|inside|fill FILE
        oracle verify-stored [narrow|open|build|edit|ray|inside|fill] FILE
        oracle bench open|build|edit|inside|fill";
 
-const CHECKS: [&str; 10] = [
-    "all", "narrow", "open", "build", "edit", "fill", "inside", "stored", "treeinfo", "original",
+const CHECKS: [&str; 11] = [
+    "all", "narrow", "open", "fold", "build", "edit", "fill", "inside", "stored", "treeinfo",
+    "original",
 ];
 
 fn main() -> ExitCode {
@@ -93,6 +94,9 @@ fn check(what: &str) -> ExitCode {
     }
     if wanted("open") {
         open::check(&mut report);
+    }
+    if wanted("fold") {
+        open::check_fold(&mut report);
     }
     if wanted("build") {
         build::check(&mut report);

@@ -24,13 +24,14 @@ const KERNEL: [f64; 5] = [1.0, 2.0, 3.0, 0.5, 7.0];
 type Model = (&'static str, fn() -> Result<(), String>);
 
 /// They ask the original.
-const MODELS: [Model; 13] = [
+const MODELS: [Model; 14] = [
     ("no record", no_record),
     ("one record", one_record),
     ("all cells of grid 2", full_grid_2),
     ("a full plane of grid 3", plane_of_grid_3),
     ("a corner of grid 4", corner_of_grid_4),
     ("a shared slot", shared_slot),
+    ("a cell twice", cell_twice),
     ("what the original accepts and the library refuses", laxer),
     (
         "what the original fills and the library refuses",
@@ -183,6 +184,26 @@ fn shared_slot() -> Result<(), String> {
         [32, 36, 40].map(|at| float_at(&tree, 64 + at)),
         [192.5, 5.5, 0.5],
     )
+}
+
+/// Two records of (1, 0, 0): the library refuses the file, the original takes the later record; fold leaves that one alone.
+fn cell_twice() -> Result<(), String> {
+    let later = Record {
+        cauchy_mass: 5.0,
+        elliptic_mass: 6.0,
+        ..record(1, 0, 0)
+    };
+    let file = point_file(Header::cube(2, 2.0), &[record(1, 0, 0), later]);
+    same("refused", refused(&file), [21, 21])?;
+    let sums = |tree: &[u8]| [16, 20].map(|at| float_at(tree, 64 + at));
+    let (of_both, _, order) = shim::build_mascon_tree(&file)?;
+    same("order count", order, 1)?;
+    same("order", word_at(&of_both, 144), 1)?;
+    same("sums", sums(&of_both), [5.0, 6.0])?;
+    let mut folded = vec![0; 80];
+    same("fold", ffi::fold(&file, &mut [0; 8], &mut folded), 80)?;
+    let of_later = tree(&folded, 148, 1, &[0])?;
+    same("sums once folded", sums(&of_later), [5.0, 6.0])
 }
 
 /// g 2 with (1, 0, 0), 16 bytes to spare, 7 journal words: put (0, 0, 0), remove (1, 0, 0), by the library.

@@ -35,13 +35,14 @@ fn is_number(mass: u32) -> bool {
 }
 
 impl Register {
-    /// From the file handed to an accepted open, and both lengths: each cell's last record, and an empty stack.
+    /// From the file handed to an accepted open, and both lengths: each cell's only record, and an empty stack.
     pub(crate) fn new(file: &[u8], bytes: usize, words: usize) -> Self {
         let count = word_at(file, 12) as usize;
         let mut map = BTreeMap::new();
         for record in file[64..].chunks_exact(16).take(count) {
             let cell = [4, 2, 0].map(|at| half_word_at(record, at));
-            map.insert(cell, [8, 12].map(|at| word_at(record, at)));
+            let before = map.insert(cell, [8, 12].map(|at| word_at(record, at)));
+            assert_eq!(before, None, "an accepted open leaves a cell one record");
         }
         Self {
             header: file[..64].to_vec(),
@@ -163,25 +164,32 @@ mod tests {
         Call::Put { cell, masses }
     }
 
-    /// (1, 0, 1) twice and (0, 1, 0) between, with junk in a pad and behind the records.
+    /// (1, 0, 1) before (0, 1, 0), with junk in a pad and behind the records.
     fn opened() -> Vec<u8> {
-        let (first, second) = (record([1, 0, 1], 1.0), record([0, 1, 0], 2.0));
-        let again = record([1, 0, 1], 3.0);
-        let mut file = point_file(Header::cube(2, 2.0), &[first, second, again]);
+        let (first, second) = (record([1, 0, 1], 3.0), record([0, 1, 0], 2.0));
+        let mut file = point_file(Header::cube(2, 2.0), &[first, second]);
         file[70] = 9;
         file[56..64].fill(0xee);
         file.extend_from_slice(&[0; 40]);
         file
     }
 
-    /// The later record counts, cells ascend, the header stays but for n.
+    /// Cells ascend, the header stays but for n.
     #[test]
     fn its_file() {
         let register = Register::new(&opened(), 200, 10);
-        let (second, again) = (record([0, 1, 0], 2.0), record([1, 0, 1], 3.0));
-        let mut want = point_file(Header::cube(2, 2.0), &[second, again]);
+        let (first, second) = (record([0, 1, 0], 2.0), record([1, 0, 1], 3.0));
+        let mut want = point_file(Header::cube(2, 2.0), &[first, second]);
         want[56..64].fill(0xee);
         assert_eq!((register.file(), register.height()), (want, 0));
+    }
+
+    /// A cell's record twice is no opened file's.
+    #[test]
+    #[should_panic(expected = "one record")]
+    fn one_cell_twice() {
+        let file = point_file(Header::cube(2, 2.0), &[record([1, 0, 1], 3.0); 2]);
+        Register::new(&file, 200, 10);
     }
 
     #[test]

@@ -4,7 +4,7 @@ pub(crate) mod edit;
 pub(crate) mod fill;
 pub(crate) mod tree;
 
-use std::collections::BTreeMap;
+use std::collections::{BTreeMap, BTreeSet};
 
 pub(crate) const HEADER: usize = 64;
 pub(crate) const RECORD: usize = 16;
@@ -125,18 +125,37 @@ pub(crate) fn working(file: &[u8]) -> bool {
     numbers.is_sorted_by(|a, b| a < b) && records(file).all(|record| record.pad == 0)
 }
 
-/// Each occupied cell of a file that `judge` lets pass, with the masses of its last record.
-pub(crate) fn cells(file: &[u8]) -> BTreeMap<u64, [u32; 2]> {
-    records(file)
-        .map(|record| (cell_number(grid(file), record.cell), record.masses))
-        .collect()
+/// Whether two records of a file that `judge` lets pass name one cell, any two of them: it has fewer cells than records. If so, that is
+/// cause 21.
+pub(crate) fn names_one_twice(file: &[u8]) -> bool {
+    let cells: BTreeSet<[u16; 3]> = records(file).map(|record| record.cell).collect();
+    (cells.len() as u64) < count(file)
 }
 
-/// The file in working form that has this header, n apart, and these cells.
-pub(crate) fn working_form(header: &[u8], cells: &BTreeMap<u64, [u32; 2]>) -> Vec<u8> {
+/// The first of the causes 1 to 7 and 8, or none: what open, fold and build have in common.
+fn judge_lent(file: &[u8], scratch_words: u64) -> Option<u64> {
+    judge(file).or_else(|| (scratch_words < grid(file).pow(3)).then_some(8))
+}
+
+/// The first of the causes 1 to 7, 8 and 21, or none: what open and build have in common.
+fn judge_distinct(file: &[u8], scratch_words: u64) -> Option<u64> {
+    judge_lent(file, scratch_words).or_else(|| names_one_twice(file).then_some(21))
+}
+
+/// The cell number and the masses of each record of a file that `judge` lets pass, by cell; records of one cell in file order.
+pub(crate) fn cells(file: &[u8]) -> Vec<(u64, [u32; 2])> {
+    let mut cells: Vec<_> = records(file)
+        .map(|record| (cell_number(grid(file), record.cell), record.masses))
+        .collect();
+    cells.sort_by_key(|(number, _)| *number);
+    cells
+}
+
+/// The file in working form that has this header, n apart, and these cells, which ascend.
+fn working_form(header: &[u8], cells: impl ExactSizeIterator<Item = (u64, [u32; 2])>) -> Vec<u8> {
     let mut file = header[..HEADER].to_vec();
     file[12..16].copy_from_slice(&(cells.len() as u32).to_le_bytes());
-    for (&number, masses) in cells {
+    for (number, masses) in cells {
         let [x, y, z] = cell_of(grid(header), number);
         for half_word in [x, y, z, 0] {
             file.extend_from_slice(&half_word.to_le_bytes());
@@ -148,15 +167,12 @@ pub(crate) fn working_form(header: &[u8], cells: &BTreeMap<u64, [u32; 2]>) -> Ve
     file
 }
 
-/// Open: 1 to 7, 8, 9, 13; then the working form stands in `out`, and word 0 of the journal is 0.
+/// Open: 1 to 7, 8, 21, 9, 13; then the working form stands in `out`, and word 0 of the journal is 0.
 pub(crate) fn open(file: &[u8], scratch_words: u64, out: &mut [u8], journal: &mut [u32]) -> u64 {
-    if let Some(cause) = judge(file) {
+    if let Some(cause) = judge_distinct(file, scratch_words) {
         return cause;
     }
-    if scratch_words < grid(file).pow(3) {
-        return 8;
-    }
-    let opened = working_form(file, &cells(file));
+    let opened = working_form(file, cells(file).into_iter());
     if out.len() < opened.len() {
         return 9;
     }
@@ -166,6 +182,25 @@ pub(crate) fn open(file: &[u8], scratch_words: u64, out: &mut [u8], journal: &mu
     out[..opened.len()].copy_from_slice(&opened);
     journal[0] = 0;
     opened.len() as u64
+}
+
+/// The working form of a file that `judge` lets pass; where records name one cell, the later counts.
+pub(crate) fn folded(file: &[u8]) -> Vec<u8> {
+    let later: BTreeMap<u64, [u32; 2]> = cells(file).into_iter().collect();
+    working_form(file, later.into_iter())
+}
+
+/// Fold: 1 to 7, 8, 9; then the working form stands in `out`.
+pub(crate) fn fold(file: &[u8], scratch_words: u64, out: &mut [u8]) -> u64 {
+    if let Some(cause) = judge_lent(file, scratch_words) {
+        return cause;
+    }
+    let folded = folded(file);
+    if out.len() < folded.len() {
+        return 9;
+    }
+    out[..folded.len()].copy_from_slice(&folded);
+    folded.len() as u64
 }
 
 #[cfg(test)]
@@ -308,35 +343,68 @@ mod tests {
         assert!(working(&[file(&[AT_2]), AT_2.to_vec()].concat()));
     }
 
-    /// The later record counts, cells ascend, pads go, what is not read stays; spare room and journal words stay.
+    /// Cells ascend, pads go, what is not read stays; spare room and journal words stay.
     #[test]
     fn open_writes_the_working_form() {
-        let (answer, out, journal) = opened(&file(&[AT_5, AT_2, AGAIN_AT_5]), 8, 99, 3);
+        let (answer, out, journal) = opened(&file(&[AT_5, AT_2]), 8, 99, 3);
         assert_eq!(answer, 96);
-        let mut want = EMPTY.to_vec();
-        want[12] = 2;
-        want.extend_from_slice(&AT_2);
-        want.extend_from_slice(&AGAIN_AT_5);
-        want.extend_from_slice(&[0xa5; 3]);
-        assert_eq!(out, want);
+        let at_5 = with(AT_5.to_vec(), 6, &[0, 0]);
+        let want = [file(&[AT_2]), at_5, vec![0xa5; 3]].concat();
+        assert_eq!(out, with(want, 12, &[2]));
         assert_eq!(journal, [0, 0x5a5a_5a5a, 0x5a5a_5a5a]);
         assert_eq!(opened(&EMPTY, 8, 64, 1), (64, EMPTY.to_vec(), vec![0]));
     }
 
     #[test]
     fn open_refuses_in_order() {
-        let three = file(&[AT_5, AT_2, AGAIN_AT_5]);
         let refused = |file: &[u8], scratch, out, journal, answer| {
             let unchanged = (answer, vec![0xa5; out], vec![0x5a5a_5a5a; journal]);
             assert_eq!(opened(file, scratch, out, journal), unchanged);
         };
-        refused(&three, 8, 96, 0, 13);
-        refused(&three, 8, 95, 1, 9);
-        refused(&three, 8, 95, 0, 9);
-        refused(&three, 7, 96, 1, 8);
+        let two = file(&[AT_5, AT_2]);
+        refused(&two, 8, 96, 0, 13);
+        refused(&two, 8, 95, 1, 9);
+        refused(&two, 8, 95, 0, 9);
+        let three = file(&[AT_5, AT_2, AGAIN_AT_5]);
+        refused(&three, 8, 112, 1, 21);
+        refused(&three, 8, 95, 0, 21);
+        refused(&three, 7, 112, 1, 8);
         refused(&three, 0, 0, 0, 8);
         refused(&with(three.clone(), 84, &[2]), 0, 0, 0, 6);
         refused(&three[..100], 8, 96, 1, 4);
+    }
+
+    /// Any two records, beside each other or not, with the same masses or not; more of them than cells.
+    #[test]
+    fn one_cell_twice() {
+        for twice in [
+            &[AT_5, AT_5][..],
+            &[AT_5, AGAIN_AT_5],
+            &[AT_5, AT_2, AGAIN_AT_5],
+            &[AT_2; 9],
+        ] {
+            assert!(names_one_twice(&file(twice)));
+        }
+        assert!(!names_one_twice(&file(&[AT_5, AT_2])) && !names_one_twice(&EMPTY));
+        let behind = [file(&[AT_5]), AT_5.to_vec()].concat();
+        assert!(!names_one_twice(&behind));
+    }
+
+    /// The later record counts, cells ascend, pads go, what is not read stays, as does spare room.
+    #[test]
+    fn fold_keeps_the_later_record() {
+        let folded = |file: &[u8], scratch, room| {
+            let mut out = vec![0xa5; room];
+            (fold(file, scratch, &mut out), out)
+        };
+        let three = file(&[AT_5, AT_2, AGAIN_AT_5]);
+        let want = file(&[AT_2, AGAIN_AT_5]);
+        let spare = [want.clone(), vec![0xa5; 3]].concat();
+        assert_eq!(folded(&three, 8, 99), (96, spare));
+        assert_eq!(folded(&want, 8, 96), (96, want));
+        assert_eq!(folded(&three, 8, 95), (9, vec![0xa5; 95]));
+        assert_eq!(folded(&three, 7, 95), (8, vec![0xa5; 95]));
+        assert_eq!(folded(&three[..100], 7, 99), (4, vec![0xa5; 99]));
     }
 
     /// g 192, record (192, 5, 0): its slot is that of (0, 6, 0), it is refused all the same.

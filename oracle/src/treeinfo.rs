@@ -153,6 +153,8 @@ fn fixed() -> Vec<Input> {
     let corner = [0, 1, 4, 5, 16, 17, 20, 21, 12].into_iter();
     let outside = point_file(Header::cube(192, 1.0), &[record([192, 5, 0], 1)]);
     let full = || of_cells(16, 0..MOST as u64);
+    let twice = |g: u32| of_cells(g, [4, 7, 0, 4].into_iter());
+    let too_long_and_twice = with(every_fourth(MOST), READ - 16, &[0; 6]);
     let junk = (0..5000u32).map(|at| (at * 37 + 11) as u8);
     let fit = as_many_as_fit();
     let said = |name, bytes, line| Input {
@@ -199,6 +201,13 @@ fn fixed() -> Vec<Input> {
             "refused 7",
         ),
         said("g 17, three records", of_cells(17, 0..3), "refused 8"),
+        said("a cell twice", twice(3), "refused 21"),
+        said("g 17, a cell twice", twice(17), "refused 8"),
+        said(
+            "every fourth cell, the first twice",
+            too_long_and_twice,
+            "refused 21",
+        ),
         said(
             "g 16, one record",
             of_cells(16, 7..8),
@@ -271,7 +280,7 @@ mod tests {
     #[test]
     fn the_rule_agrees_with_itself() {
         let by_rule = |input: &[u8]| Ok(line(input).into_bytes());
-        for (inputs, cases) in [(fixed(), 25), (small(), SMALL as u64)] {
+        for (inputs, cases) in [(fixed(), 28), (small(), SMALL as u64)] {
             let search = compare(by_rule, &inputs);
             assert_eq!((search.cases.apart(), search.mismatches), ((0, cases), 0));
         }
@@ -285,8 +294,8 @@ mod tests {
             let causes = lines.filter_map(|line| Some(line.strip_prefix("refused ")?.to_owned()));
             causes.collect::<BTreeSet<_>>()
         };
-        let nine: BTreeSet<String> = (1..10).map(|cause| format!("{cause}\n")).collect();
-        assert_eq!(causes(&fixed()), nine);
+        let all = (1..10).chain([21]).map(|cause| format!("{cause}\n"));
+        assert_eq!(causes(&fixed()), all.collect::<BTreeSet<_>>());
         let small = small();
         assert!(causes(&small).len() >= 7);
         let accepted = |input: &&Input| line(&input.bytes).starts_with("nodes ");
@@ -318,7 +327,7 @@ mod tests {
         assert_eq!(found(|input| line(input) + " ").len(), all);
         assert_eq!(
             found(|input| line(input).replace("refused 8", "refused 9")),
-            ["g 17, three records"]
+            ["g 17, three records", "g 17, a cell twice"]
         );
         let more = |input: &[u8]| match input.len() {
             16_400 => "nodes 1 order 1 bytes 148\n".to_owned(),

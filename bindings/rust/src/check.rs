@@ -2,11 +2,11 @@
 
 use crate::points::{float_at, grid_of, half_at, records_of, word_at, HEADER, POINTS_WORD, RECORD};
 use crate::tree::{NODE, TREE_WORD};
+use crate::twice::{repeated, Twice};
 use crate::{
     cells, ffi, Kernel, Point, Refusal, Triangle, MAX_COORDINATE, MAX_GRID, MAX_KERNELS, MAX_SIGMA,
     MAX_TRIANGLES, MAX_WEIGHT,
 };
-use std::collections::HashMap;
 use std::fmt;
 
 /// What a fault stands in.
@@ -187,7 +187,8 @@ fn header_floats(
     }
 }
 
-/// The faults of a point file, causes 1 to 7, `most` of them listed. The first one's cause is the one by which it is refused.
+/// The faults of a point file, causes 1 to 7, then 21 for every record that names a cell again, `most` of them listed. The first one's
+/// cause is the one by which it is refused.
 ///
 /// ```
 /// use mascon::{check::check_points, shapes, Model, Refusal};
@@ -238,7 +239,23 @@ fn points_report(bytes: &[u8], most: usize) -> Report {
     for record in 0..records_of(bytes) {
         record_faults(&mut report, bytes, record);
     }
+    repeated_cells(&mut report, bytes);
     report
+}
+
+/// Every record that names a cell again.
+fn repeated_cells(report: &mut Report, bytes: &[u8]) {
+    for Twice {
+        cell: [x, y, z],
+        first,
+        second,
+    } in repeated(bytes)
+    {
+        let (at, place) = (HEADER + RECORD * second, Place::Record(second));
+        report.add_with(Refusal::CellTwice, place, "x", at, || {
+            format!("cell ({x}, {y}, {z}) again, first in record {first}")
+        });
+    }
 }
 
 /// The coordinates of a record, where the grid is one, and its masses.
@@ -262,23 +279,18 @@ fn record_faults(report: &mut Report, bytes: &[u8], record: usize) {
 }
 
 /// What keeps an accepted point file from working form (cause 10 of the edits; opening it mends that), `most` listed: records that do
-/// not ascend, every one that names a cell again, and pads. Bytes after the last record are no part of it, see [`trailing_bytes`].
+/// not ascend, and pads. Bytes after the last record are no part of it, see [`trailing_bytes`].
 pub fn check_working_form(bytes: &[u8], most: usize) -> Report {
     let mut report = Report::new(most);
-    let mut named = Named::new(grid_of(bytes));
     let mut last = None;
     for i in 0..records_of(bytes) {
         let (at, place) = (HEADER + RECORD * i, Place::Record(i));
         let Point { x, y, z, .. } = Point::at(bytes, i);
         // The order of cell numbers, wherever these lie in the grid.
         let cell = [z, y, x];
-        let first = named.first([x, y, z], i);
-        if first.is_some() || last.is_some_and(|last| cell < last) {
-            report.add_with(Refusal::NotWorkingForm, place, "x", at, || match first {
-                Some(first) => format!(
-                    "cell ({x}, {y}, {z}) again, first in record {first}: the later record counts"
-                ),
-                None => format!("cell ({x}, {y}, {z}) stands after a later cell"),
+        if last.is_some_and(|last| cell < last) {
+            report.add_with(Refusal::NotWorkingForm, place, "x", at, || {
+                format!("cell ({x}, {y}, {z}) stands after a later cell")
             });
         }
         last = Some(cell);
@@ -290,41 +302,6 @@ pub fn check_working_form(bytes: &[u8], most: usize) -> Report {
         }
     }
     report
-}
-
-/// The record that first named each cell.
-struct Named {
-    grid: u32,
-    /// By cell number, one more than the record.
-    inside: Vec<u32>,
-    /// Of cells outside the grid, which a file that is refused may have.
-    outside: HashMap<[u32; 3], usize>,
-}
-
-impl Named {
-    fn new(grid: Option<u32>) -> Named {
-        let grid = grid.unwrap_or(0);
-        Named {
-            grid,
-            inside: vec![0; cells(grid)],
-            outside: HashMap::new(),
-        }
-    }
-
-    /// The earlier record that named the cell first; none where this one does.
-    fn first(&mut self, cell: [u32; 3], record: usize) -> Option<usize> {
-        if cell.iter().any(|&index| index >= self.grid) {
-            let first = *self.outside.entry(cell).or_insert(record);
-            return (first != record).then_some(first);
-        }
-        let [x, y, z] = cell;
-        let named = &mut self.inside[((z * self.grid + y) * self.grid + x) as usize];
-        if *named == 0 {
-            *named = record as u32 + 1;
-            return None;
-        }
-        Some(*named as usize - 1)
-    }
 }
 
 /// How many bytes follow the last record of a point file. No call reads them; opening the file drops them.

@@ -1,22 +1,18 @@
 use crate::points::{half_at, records_of, HEADER, RECORD};
-use crate::{Model, Point};
+use crate::Point;
 use std::fmt;
 
-/// How a point file departs from working form, counted. Opening it drops all of this but the order.
+/// How a point file that can be opened departs from working form, counted. Opening it drops all of this but the order.
 ///
 /// ```
-/// use mascon::{shapes, Departures, Model};
+/// use mascon::{shapes, Departures};
 ///
 /// let mut file = shapes::empty_file(4, [0.0; 3], [4.0; 3]);
 /// file.extend([1, 2, 3]);
-/// let departures = Departures::of(&file, &Model::open(&file)?);
-/// assert_eq!(departures.to_string(), "3 bytes after the records");
-/// # Ok::<(), mascon::Refusal>(())
+/// assert_eq!(Departures::of(&file).to_string(), "3 bytes after the records");
 /// ```
 #[derive(Clone, Copy, Debug, Default, PartialEq, Eq)]
 pub struct Departures {
-    /// Records of a cell that a later record names, which counts.
-    pub repeated: usize,
     /// Records that stand behind one of a later cell.
     pub out_of_order: usize,
     /// Pads that are not 0.
@@ -26,8 +22,8 @@ pub struct Departures {
 }
 
 impl Departures {
-    /// Those of a file from the model that it opens to.
-    pub fn of(bytes: &[u8], opened: &Model) -> Departures {
+    /// Those of a file.
+    pub fn of(bytes: &[u8]) -> Departures {
         let records = records_of(bytes);
         let cell = |record: usize| {
             let Point { x, y, z, .. } = Point::at(bytes, record);
@@ -36,7 +32,6 @@ impl Departures {
         let behind = |&record: &usize| cell(record) < cell(record - 1);
         let padded = |&record: &usize| half_at(bytes, HEADER + RECORD * record + 6) != 0;
         Departures {
-            repeated: records.saturating_sub(opened.len()),
             out_of_order: (1..records).filter(behind).count(),
             pads: (0..records).filter(padded).count(),
             trailing: bytes.len().saturating_sub(HEADER + RECORD * records),
@@ -60,11 +55,6 @@ impl Departures {
 impl fmt::Display for Departures {
     fn fmt(&self, f: &mut fmt::Formatter<'_>) -> fmt::Result {
         let parts = [
-            (
-                self.repeated,
-                "record",
-                "of cells that a later record names",
-            ),
             (self.out_of_order, "record", "out of order"),
             (self.pads, "pad", "not 0"),
             (self.trailing, "byte", "after the records"),

@@ -81,6 +81,15 @@ exported! {
         journal_length: usize,
     ) -> u64;
 
+    fn mascon_fold(
+        file: *const u8,
+        file_length: usize,
+        scratch: *mut u32,
+        scratch_length: usize,
+        out: *mut u8,
+        out_length: usize,
+    ) -> u64;
+
     fn mascon_put(
         file: *mut u8,
         file_length: usize,
@@ -206,6 +215,19 @@ pub(crate) fn open(
             out.len(),
             journal.as_mut_ptr(),
             journal.len(),
+        )
+    })
+}
+
+pub(crate) fn fold(file: &[u8], scratch: &mut [u32], out: &mut [u8]) -> Result<usize, Refusal> {
+    length(unsafe {
+        mascon_fold(
+            file.as_ptr(),
+            file.len(),
+            scratch.as_mut_ptr(),
+            scratch.len(),
+            out.as_mut_ptr(),
+            out.len(),
         )
     })
 }

@@ -16,6 +16,7 @@ mod save;
 pub mod shapes;
 pub mod text;
 mod tree;
+mod twice;
 
 pub use departures::Departures;
 pub use fill::{
@@ -25,10 +26,11 @@ pub use fill::{
 pub use model::{ApplyError, Change, Entry, Model, MAX_ENTRIES};
 pub use model_file::{beside_model, journal_path, ModelFile, ModelFileError, Reading};
 pub use points::{build_mascon_tree, parse_mascon_bytes, Header, MasconSource, Point, Points};
-pub use refusal::{Labelled, Refusal};
+pub use refusal::{Labelled, OpenError, Refusal};
 pub use save::{held_at, write_file, Held};
 pub use text::Edit;
 pub use tree::{Node, Tree};
+pub use twice::{Dropped, Twice};
 
 /// The finest grid: cells on each axis.
 pub const MAX_GRID: u32 = 256;
@@ -42,7 +44,7 @@ pub(crate) fn cells(grid: u32) -> usize {
 /// Opens a point file; see [`Model::open`].
 ///
 /// # Errors
-/// 1 to 7.
-pub fn open(bytes: &[u8]) -> Result<Model, Refusal> {
+/// 1 to 7, 21.
+pub fn open(bytes: &[u8]) -> Result<Model, OpenError> {
     Model::open(bytes)
 }

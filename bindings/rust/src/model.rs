@@ -1,7 +1,8 @@
 use crate::points::{grid_of, records_of, scratch, HEADER, RECORD};
+use crate::twice::dropped;
 use crate::{
-    cells, ffi, model_file, Edit, Header, Kernel, ModelFile, ModelFileError, Point, Points,
-    Refusal, Tree, Triangle,
+    cells, ffi, model_file, Dropped, Edit, Header, Kernel, ModelFile, ModelFileError, OpenError,
+    Point, Points, Refusal, Tree, Triangle,
 };
 use std::collections::HashMap;
 use std::fmt;
@@ -158,19 +159,53 @@ pub struct Model {
 impl Model {
     /// Opens a point file: its working form, with nothing to undo.
     ///
-    /// Where two records name one cell, the later counts.
+    /// A file in which two records name one cell is refused; [`fold`](Model::fold) takes it.
+    ///
+    /// # Errors
+    /// 1 to 7; 21, with the records.
+    pub fn open(bytes: &[u8]) -> Result<Model, OpenError> {
+        let open = |scratch: &mut [u32], out: &mut [u8]| ffi::open(bytes, scratch, out, &mut [0]);
+        Model::written(bytes, open).map_err(|refusal| OpenError::of(refusal, bytes))
+    }
+
+    /// Folds a point file in which records may name one cell: the later of them counts. Its working form, with nothing to undo, and
+    /// the records that were dropped, ascending; none of a file that [`open`](Model::open) takes.
+    ///
+    /// ```
+    /// use mascon::{shapes, Model, Refusal};
+    ///
+    /// let mut file = shapes::empty_file(4, [0.0; 3], [4.0; 3]);
+    /// file[12] = 2;
+    /// for mass in [5.0_f32, 6.0] {
+    ///     file.extend([[1, 0, 2, 0], [3, 0, 0, 0], mass.to_le_bytes(), mass.to_le_bytes()].concat());
+    /// }
+    /// assert_eq!(Model::open(&file).unwrap_err(), Refusal::CellTwice);
+    /// let (model, dropped) = Model::fold(&file)?;
+    /// assert_eq!(model.get(1, 2, 3).unwrap().cauchy_mass, 6.0);
+    /// assert_eq!((dropped.len(), dropped[0].record, dropped[0].kept), (1, 0, 1));
+    /// assert_eq!(dropped[0].point.cauchy_mass, 5.0);
+    /// # Ok::<(), Refusal>(())
+    /// ```
     ///
     /// # Errors
     /// 1 to 7.
-    pub fn open(bytes: &[u8]) -> Result<Model, Refusal> {
+    pub fn fold(bytes: &[u8]) -> Result<(Model, Vec<Dropped>), Refusal> {
+        let fold = |scratch: &mut [u32], out: &mut [u8]| ffi::fold(bytes, scratch, out);
+        Ok((Model::written(bytes, fold)?, dropped(bytes)))
+    }
+
+    /// The model whose working form a call writes, lent enough for every record of a file.
+    fn written(
+        bytes: &[u8],
+        call: impl FnOnce(&mut [u32], &mut [u8]) -> Result<usize, Refusal>,
+    ) -> Result<Model, Refusal> {
         let most = grid_of(bytes).map_or(0, |grid| cells(grid).min(records_of(bytes)));
         let mut file = vec![0; HEADER + RECORD * most];
-        let mut journal = vec![0];
-        let length = ffi::open(bytes, &mut scratch(bytes), &mut file, &mut journal)?;
+        let length = call(&mut scratch(bytes), &mut file)?;
         Ok(Model {
             file,
             length,
-            journal,
+            journal: vec![0],
             redo: Vec::new(),
         })
     }
@@ -206,7 +241,7 @@ impl Model {
             constant_density,
             grid,
         )?;
-        Model::open(&file)
+        Ok(Model::open(&file)?)
     }
 
     /// Takes up a file in working form with the journal of its edits, as [`as_bytes`](Model::as_bytes) and
@@ -226,7 +261,7 @@ impl Model {
     /// ```
     ///
     /// # Errors
-    /// 1 to 7; 10 not in working form, or bytes past the records; 11 the journal's count; 16 an entry that does not fit.
+    /// 1 to 7, 21; 10 not in working form, or bytes past the records; 11 the journal's count; 16 an entry that does not fit.
     pub fn resume(bytes: &[u8], journal: &[u32]) -> Result<Model, Refusal> {
         let mut model = Model::open(bytes)?;
         if model.as_bytes() != bytes {
@@ -583,7 +618,7 @@ impl Model {
     /// # Errors
     /// None today: a model in working form has a tree.
     pub fn tree(&self) -> Result<Tree, Refusal> {
-        Tree::build(self.as_bytes())
+        Ok(Tree::build(self.as_bytes())?)
     }
 
     /// The point file (RYM1), in working form.

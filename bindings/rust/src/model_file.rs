@@ -1,7 +1,7 @@
 use crate::save::{
     beside, clear_beside, create_locked, disk, replaceable, same_file, spare, target, write_whole,
 };
-use crate::{Departures, Model, Refusal};
+use crate::{Departures, Model, OpenError, Refusal};
 use std::fs::{self, File, TryLockError};
 use std::io::{self, Read};
 use std::path::{Path, PathBuf};
@@ -231,13 +231,14 @@ impl Place {
     fn take_up(&self, bytes: &[u8], journal: Option<&Journal>) -> Result<Model, ModelFileError> {
         let model = match journal {
             None => Model::open(bytes),
-            Some(journal) => Model::resume_with(bytes, &journal.words, &journal.redo),
+            Some(journal) => Model::resume_with(bytes, &journal.words, &journal.redo)
+                .map_err(|refusal| OpenError::of(refusal, bytes)),
         };
-        model.map_err(|refusal| match refusal {
+        model.map_err(|error| match error.refusal {
             Refusal::BadJournal | Refusal::BadLastEntry => {
-                ModelFileError::Model(self.shown(JOURNAL), refusal)
+                ModelFileError::Model(self.shown(JOURNAL), error)
             }
-            _ => ModelFileError::Model(self.given.clone(), refusal),
+            _ => ModelFileError::Model(self.given.clone(), error),
         })
     }
 
@@ -248,14 +249,12 @@ impl Place {
         journal: Option<&Journal>,
     ) -> Result<Model, ModelFileError> {
         match self.take_up(bytes, journal) {
-            Ok(model) if model.as_bytes() == bytes => Ok(model),
-            Ok(_) | Err(ModelFileError::Model(_, Refusal::NotWorkingForm)) => {
-                let departures = Departures::of(bytes, &self.take_up(bytes, None)?);
-                let given = self.given.clone();
-                Err(ModelFileError::NotWorkingForm(given, departures))
-            }
-            refused => refused,
+            Err(ModelFileError::Model(_, error)) if error == Refusal::NotWorkingForm => {}
+            Ok(model) if model.as_bytes() != bytes => {}
+            taken_up => return taken_up,
         }
+        let given = self.given.clone();
+        Err(ModelFileError::NotWorkingForm(given, Departures::of(bytes)))
     }
 
     /// Writes a model and its journal beside, whole, and puts the journal in its place: from then on the save is made. Answers the

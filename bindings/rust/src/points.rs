@@ -1,4 +1,4 @@
-use crate::{cells, ffi, Labelled, Refusal};
+use crate::{cells, ffi, Labelled, OpenError, Refusal};
 
 /// The length of a point file's header.
 pub(crate) const HEADER: usize = 64;
@@ -199,12 +199,12 @@ pub(crate) fn records_of(file: &[u8]) -> usize {
     ((file.len() - HEADER) / RECORD).min(word_at(file, 12) as usize)
 }
 
-/// Causes 1 to 7 of a file. With no word of scratch, open answers 8 exactly where none of them holds.
-pub(crate) fn judge(file: &[u8]) -> Result<(), Refusal> {
-    match ffi::open(file, &mut [], &mut [], &mut []) {
-        Err(Refusal::ScratchTooShort) => Ok(()),
-        Err(refusal) => Err(refusal),
-        Ok(_) => unreachable!("a grid has at least one cell, which takes a word of scratch"),
+/// Causes 1 to 7 and 21 of a file. With no byte of output, open answers 9 exactly where none of them holds.
+pub(crate) fn judge(file: &[u8]) -> Result<(), OpenError> {
+    match ffi::open(file, &mut scratch(file), &mut [], &mut []) {
+        Err(Refusal::OutputTooShort) => Ok(()),
+        Err(refusal) => Err(OpenError::of(refusal, file)),
+        Ok(_) => unreachable!("a working form has a header, which takes 64 bytes of output"),
     }
 }
 
@@ -213,7 +213,7 @@ pub(crate) fn scratch(file: &[u8]) -> Vec<u32> {
     vec![0; grid_of(file).map_or(0, cells)]
 }
 
-/// A point file that was judged, its records as they stand: repeated cells and their order are kept.
+/// A point file that was judged, its records as they stand: their order is kept.
 ///
 /// For edits, make it a [`Model`](crate::Model) with [`open`](MasconSource::open).
 #[derive(Clone, Debug)]
@@ -237,7 +237,7 @@ impl MasconSource {
         self.header().count as usize
     }
 
-    /// The records in file order. Where two name one cell, the later counts.
+    /// The records in file order, one for each occupied cell.
     pub fn points(&self) -> Points<'_> {
         Points::of(&self.bytes)
     }
@@ -252,7 +252,7 @@ impl MasconSource {
     /// # Errors
     /// None today: it was judged when it was parsed.
     pub fn open(&self) -> Result<crate::Model, Refusal> {
-        crate::Model::open(&self.bytes)
+        Ok(crate::Model::open(&self.bytes)?)
     }
 }
 
@@ -266,7 +266,7 @@ impl MasconSource {
 /// ```
 ///
 /// # Errors
-/// 1 to 7, with the label.
+/// 1 to 7, 21, with the label.
 pub fn parse_mascon_bytes(bytes: &[u8], label: &str) -> Result<MasconSource, Labelled> {
     match judge(bytes) {
         Ok(()) => {
@@ -274,9 +274,10 @@ pub fn parse_mascon_bytes(bytes: &[u8], label: &str) -> Result<MasconSource, Lab
             let bytes = bytes[..length].to_vec();
             Ok(MasconSource { bytes })
         }
-        Err(refusal) => Err(Labelled {
+        Err(OpenError { refusal, twice }) => Err(Labelled {
             label: label.to_string(),
             refusal,
+            twice,
         }),
     }
 }

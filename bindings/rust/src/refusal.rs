@@ -1,3 +1,4 @@
+use crate::twice::{repeated, Twice};
 use std::error::Error;
 use std::fmt;
 
@@ -10,7 +11,7 @@ macro_rules! refusals {
         /// ```
         /// use mascon::{Model, Refusal};
         ///
-        /// let refusal = Model::open(b"short").unwrap_err();
+        /// let refusal = Model::open(b"short").unwrap_err().refusal;
         /// assert_eq!(refusal, Refusal::FileTooShort);
         /// assert_eq!(refusal.number(), 1);
         /// assert_eq!(refusal.to_string(), "refused 1: file under 64 bytes");
@@ -88,7 +89,7 @@ refusals! {
     OutputTooShort = 9, "output too short",
         "lend a longer output; this crate does so by itself";
     NotWorkingForm = 10, "not in working form",
-        "open the file first: edits take records ascending by cell, one for each cell, pad 0";
+        "open the file first, or fold it where it names a cell twice: edits take records ascending by cell, one for each cell, pad 0";
     BadJournal = 11, "journal without words, with wrong top bits or count, or with entries missing",
         "the journal is damaged: go on from the model without it, undo is lost";
     EmptyCell = 12, "the cell is empty",
@@ -111,6 +112,8 @@ refusals! {
         "the mesh is flat, or too small for its distance from the origin: move it to the origin";
     NotFinite = 20, "a float to be written is not finite",
         "masses, density or cell volume pass 3.4e38, or kernels cancel so that the scale does: look at weights and target mass";
+    CellTwice = 21, "two records name one cell",
+        "fold the file (`mascon fold IN -o OUT`, `Model::fold`): the later record of a cell counts; `mascon check` names the records";
 }
 
 impl Refusal {
@@ -153,6 +156,82 @@ impl From<Refusal> for String {
     }
 }
 
+/// Why a point file was not opened or built: the refusal and, where two records name one cell (21), these.
+///
+/// ```
+/// use mascon::{shapes, Model, Refusal};
+///
+/// let mut file = shapes::empty_file(4, [0.0; 3], [4.0; 3]);
+/// file[12] = 2;
+/// file.extend([0; 32]);
+/// let error = Model::open(&file).unwrap_err();
+/// assert_eq!(error, Refusal::CellTwice);
+/// assert_eq!(
+///     error.to_string(),
+///     "refused 21: two records name one cell: records 0 and 1 both name cell (0, 0, 0); fold the file to keep the later one"
+/// );
+/// ```
+#[derive(Clone, Copy, PartialEq, Eq)]
+pub struct OpenError {
+    /// Why.
+    pub refusal: Refusal,
+    /// Of cause 21 the first record that names a cell again, and the one that names it first; else none.
+    pub twice: Option<Twice>,
+}
+
+impl OpenError {
+    /// With the records of the file that was refused.
+    pub(crate) fn of(refusal: Refusal, file: &[u8]) -> OpenError {
+        let twice = match refusal {
+            Refusal::CellTwice => repeated(file).next(),
+            _ => None,
+        };
+        OpenError { refusal, twice }
+    }
+}
+
+impl fmt::Display for OpenError {
+    fn fmt(&self, f: &mut fmt::Formatter<'_>) -> fmt::Result {
+        write!(f, "{}", self.refusal)?;
+        match self.twice {
+            Some(twice) => write!(f, ": {twice}; fold the file to keep the later one"),
+            None => Ok(()),
+        }
+    }
+}
+
+/// In words, as it is displayed.
+impl fmt::Debug for OpenError {
+    fn fmt(&self, f: &mut fmt::Formatter<'_>) -> fmt::Result {
+        fmt::Display::fmt(self, f)
+    }
+}
+
+impl Error for OpenError {
+    fn source(&self) -> Option<&(dyn Error + 'static)> {
+        Some(&self.refusal)
+    }
+}
+
+impl PartialEq<Refusal> for OpenError {
+    fn eq(&self, refusal: &Refusal) -> bool {
+        self.refusal == *refusal
+    }
+}
+
+/// Without the records.
+impl From<OpenError> for Refusal {
+    fn from(error: OpenError) -> Refusal {
+        error.refusal
+    }
+}
+
+impl From<OpenError> for String {
+    fn from(error: OpenError) -> String {
+        error.to_string()
+    }
+}
+
 /// A refusal with the label of what was refused.
 ///
 /// ```
@@ -165,11 +244,14 @@ pub struct Labelled {
     pub label: String,
     /// Why.
     pub refusal: Refusal,
+    /// As in [`OpenError`].
+    pub twice: Option<Twice>,
 }
 
 impl fmt::Display for Labelled {
     fn fmt(&self, f: &mut fmt::Formatter<'_>) -> fmt::Result {
-        write!(f, "{}: {}", self.label, self.refusal)
+        let Labelled { refusal, twice, .. } = *self;
+        write!(f, "{}: {}", self.label, OpenError { refusal, twice })
     }
 }
 

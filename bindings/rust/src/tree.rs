@@ -1,6 +1,6 @@
 use crate::check::{check_tree, Fault};
 use crate::points::{float_at, floats_at, grid_of, records_of, scratch, word_at, HEADER};
-use crate::{cells, ffi, Refusal};
+use crate::{cells, ffi, OpenError, Refusal};
 use std::io;
 use std::path::Path;
 
@@ -92,8 +92,8 @@ impl Tree {
     /// Builds the tree of a point file, in working form or not. The order names points by their place in that file.
     ///
     /// # Errors
-    /// 1 to 7.
-    pub fn build(file: &[u8]) -> Result<Tree, Refusal> {
+    /// 1 to 7, 21.
+    pub fn build(file: &[u8]) -> Result<Tree, OpenError> {
         // At most one order word and one node to a cell.
         let most = grid_of(file).map_or(0, cells);
         let count = records_of(file);
@@ -114,7 +114,7 @@ impl Tree {
                     });
                 }
                 Err(Refusal::OutputTooShort) if nodes < most => nodes = (2 * nodes).min(most),
-                Err(refusal) => return Err(refusal),
+                Err(refusal) => return Err(OpenError::of(refusal, file)),
             }
         }
     }

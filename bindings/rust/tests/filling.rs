@@ -3,7 +3,7 @@
 mod common;
 
 use common::{file, mascon, record, Folder, Ran, Rng};
-use mascon::check::{check_lists, check_working_form, trailing_bytes, Place};
+use mascon::check::{check_lists, check_points, check_working_form, trailing_bytes, Place, Report};
 use mascon::mesh::{self, Survey};
 use mascon::{build_mascon, is_inside, shapes, text, Kernel, Model, Refusal, Triangle};
 use std::collections::BTreeSet;
@@ -195,23 +195,30 @@ fn every_repeated_cell_is_found() {
         cell(2, 1, 1),
     ];
     let mut bytes = file(4, &records);
-    let words = |bytes: &[u8]| -> Vec<String> {
-        let report = check_working_form(bytes, 9);
-        report.faults.iter().map(ToString::to_string).collect()
-    };
+    let words =
+        |report: Report| -> Vec<String> { report.faults.iter().map(ToString::to_string).collect() };
+    let again = [
+        "cause 21: record 2, x, byte 96: cell (1, 1, 1) again, first in record 0",
+        "cause 21: record 4, x, byte 128: cell (2, 1, 1) again, first in record 1",
+    ];
+    assert_eq!(words(check_points(&bytes, 9)), again);
+    // Two of them are out of order besides.
     assert_eq!(
-        words(&bytes),
+        words(check_working_form(&bytes, 9)),
         [
-            "cause 10: record 2, x, byte 96: cell (1, 1, 1) again, first in record 0: the later record counts",
-            "cause 10: record 4, x, byte 128: cell (2, 1, 1) again, first in record 1: the later record counts",
+            "cause 10: record 2, x, byte 96: cell (1, 1, 1) stands after a later cell",
+            "cause 10: record 4, x, byte 128: cell (2, 1, 1) stands after a later cell",
         ]
     );
-    // Outside the grid, and where the grid is none.
+    // After the other causes, outside the grid, and where the grid is none.
     bytes[8] = 2;
-    assert_eq!(words(&bytes).len(), 2);
+    let found = words(check_points(&bytes, 99));
+    assert!(found[0].starts_with("cause 6: record 1, x"), "{found:?}");
+    assert_eq!(found[found.len() - 2..], again);
     bytes[8] = 0;
-    assert_eq!(words(&bytes).len(), 2);
-    assert!(words(&bytes)[1].contains("first in record 1"));
+    let found = words(check_points(&bytes, 99));
+    assert!(found[0].starts_with("cause 3"), "{found:?}");
+    assert_eq!(found[1..], again);
 }
 
 /// As many records as cells, from the last to the first, and the last one again.
@@ -224,15 +231,20 @@ fn a_full_grid_of_records_is_judged() {
         let [x, y, z, _] = number.to_le_bytes().map(u16::from);
         bytes.extend_from_slice(&record(x, y, z, 0, 1.0, 1.0));
     }
-    let report = check_working_form(&bytes, 2);
-    assert_eq!((report.total, report.faults.len()), (1 << 24, 2));
     let last = (1 << 24) - 1;
+    let report = check_working_form(&bytes, 2);
+    assert_eq!((report.total, report.faults.len()), (last, 2));
+    let report = check_points(&bytes, 2);
+    assert_eq!(report.total, 1);
+    let why = format!("cell (0, 0, 0) again, first in record {last}");
+    assert_eq!(report.faults[0].why, why);
     bytes[64 + 16 * last + 6] = 1;
     bytes.drain(64..64 + 16 * last);
     bytes[12..16].copy_from_slice(&2_u32.to_le_bytes());
-    assert!(check_working_form(&bytes, 9).faults[1]
+    assert!(check_points(&bytes, 9).faults[0]
         .why
         .contains("again, first in record 0"));
+    assert_eq!(check_working_form(&bytes, 9).total, 1);
 }
 
 #[test]

@@ -4,7 +4,7 @@ mod common;
 
 use common::{file, record, Folder, Rng};
 use mascon::check::{check_points, check_tree, check_working_form};
-use mascon::{parse_mascon_bytes, shapes, text, Model, ModelFile, Tree};
+use mascon::{parse_mascon_bytes, shapes, text, Model, ModelFile, Refusal, Tree};
 
 /// Some bytes changed, some inserted, some cut off.
 fn mutated(rng: &mut Rng, good: &[u8]) -> Vec<u8> {
@@ -29,17 +29,16 @@ fn mutated(rng: &mut Rng, good: &[u8]) -> Vec<u8> {
 #[test]
 fn point_files() {
     let mut rng = Rng(11);
-    let good = file(
-        4,
-        &[
-            (0, 1, 2, 1.0, 2.0),
-            (3, 1, 2, 1.0, 2.0),
-            (3, 3, 3, 0.0, -1.0),
-        ],
-    );
-    let mut accepted = 0;
-    for _ in 0..20_000 {
-        let bytes = mutated(&mut rng, &good);
+    let points = [
+        (0, 1, 2, 1.0, 2.0),
+        (3, 1, 2, 1.0, 2.0),
+        (3, 3, 3, 0.0, -1.0),
+        (3, 1, 2, 1.0, 2.0),
+    ];
+    let (good, twice) = (file(4, &points[..3]), file(4, &points));
+    let (mut accepted, mut folded) = (0, 0);
+    for step in 0..20_000 {
+        let bytes = mutated(&mut rng, if step % 2 == 0 { &good } else { &twice });
         let report = check_points(&bytes, 5);
         let _ = check_working_form(&bytes, 5);
         assert_eq!(
@@ -47,7 +46,16 @@ fn point_files() {
             parse_mascon_bytes(&bytes, "file").is_ok()
         );
         assert_eq!(report.is_clean(), Tree::build(&bytes).is_ok());
-        if let Ok(mut model) = Model::open(&bytes) {
+        let opened = Model::open(&bytes);
+        let twice = opened.as_ref().is_err_and(|e| *e == Refusal::CellTwice);
+        let fold = Model::fold(&bytes);
+        assert_eq!(fold.is_ok(), twice || opened.is_ok());
+        if let Ok((model, dropped)) = fold {
+            folded += usize::from(twice);
+            assert_eq!(model.len() + dropped.len(), bytes[12].into());
+            assert_eq!(dropped.len(), report.total);
+        }
+        if let Ok(mut model) = opened {
             accepted += 1;
             assert!(report.is_clean());
             let opened = model.as_bytes().to_vec();
@@ -57,7 +65,7 @@ fn point_files() {
             assert_eq!(model.as_bytes(), opened);
         }
     }
-    assert!(accepted > 2_000, "{accepted}");
+    assert!(accepted > 2_000 && folded > 2_000, "{accepted} {folded}");
 }
 
 #[test]
@@ -212,7 +220,8 @@ fn pictures() {
             bytes[12] = 2;
             bytes.extend(record(0, 0, 0, 0, f32::MAX, f32::MIN));
             bytes.extend(record(grid as u16 - 1, 0, 0, 0, -1.0, 1e-45));
-            let model = Model::open(&bytes).unwrap();
+            // At grid 1 both name the one cell.
+            let (model, _) = Model::fold(&bytes).unwrap();
             for (model, before) in [
                 (&empty, None),
                 (&model, None),

@@ -5,10 +5,11 @@ mod common;
 use common::{file, record, Folder, Rng};
 use mascon::check::{check_points, check_tree, check_working_form, Place};
 use mascon::{
-    build_mascon, build_mascon_tree, is_inside, parse_mascon_bytes, shapes, text, Change, Kernel,
-    Model, Refusal, Tree, Triangle,
+    build_mascon, build_mascon_tree, is_inside, parse_mascon_bytes, shapes, text, Change, Dropped,
+    Kernel, Model, OpenError, Point, Refusal, Tree, Triangle, Twice,
 };
 use std::collections::BTreeMap;
+use std::error::Error;
 
 #[test]
 fn contact_binary_from_mesh_to_tree() {
@@ -76,22 +77,195 @@ fn a_source_keeps_its_order() {
         &[
             (1, 0, 0, 1.0, 1.0),
             (0, 0, 0, 2.0, 2.0),
-            (1, 0, 0, 4.0, 4.0),
+            (1, 1, 0, 4.0, 4.0),
         ],
     );
     let source = parse_mascon_bytes(&bytes, "file").unwrap();
+    assert_eq!(source.as_bytes(), bytes);
     let (tree, nodes, ordered) = build_mascon_tree(&source).unwrap();
-    assert_eq!((nodes, ordered), (1, 2));
+    assert_eq!((nodes, ordered), (1, 3));
     let tree = Tree::open(tree).unwrap();
-    assert!(tree.order().eq([1, 2]));
+    assert!(tree.order().eq([1, 0, 2]));
     let model = source.open().unwrap();
-    assert_eq!(model.len(), 2);
-    assert_eq!(model.get(1, 0, 0).unwrap().cauchy_mass, 4.0);
-    assert!(model.tree().unwrap().order().eq([0, 1]));
+    assert_eq!(model.len(), 3);
+    assert_eq!(model.get(1, 1, 0).unwrap().cauchy_mass, 4.0);
+    assert!(model.tree().unwrap().order().eq([0, 1, 2]));
     assert_eq!(
         check_working_form(&bytes, 9).faults[0].place,
         Place::Record(1)
     );
+}
+
+/// Whatever opens or builds the file refuses it with these records.
+fn refused_for(bytes: &[u8], twice: Twice) {
+    let error = Model::open(bytes).unwrap_err();
+    assert_eq!(error, Refusal::CellTwice);
+    assert_eq!(error.twice, Some(twice));
+    let Twice {
+        cell: [x, y, z],
+        first,
+        second,
+    } = twice;
+    let words = format!(
+        "refused 21: two records name one cell: records {first} and {second} both name cell ({x}, {y}, {z}); fold the file to keep the later one"
+    );
+    assert_eq!([error.to_string(), format!("{error:?}")], [&*words; 2]);
+    assert_eq!(String::from(error), words);
+    let refusal = Refusal::from(error);
+    assert_eq!(error.source().unwrap().to_string(), refusal.to_string());
+    assert_eq!(Tree::build(bytes).unwrap_err(), error);
+    assert_eq!(mascon::open(bytes).unwrap_err(), error);
+    assert_eq!(Model::resume(bytes, &[0]).unwrap_err(), refusal);
+    let labelled = parse_mascon_bytes(bytes, "file").unwrap_err();
+    assert_eq!((labelled.refusal, labelled.twice), (refusal, Some(twice)));
+    assert_eq!(labelled.to_string(), format!("file: {words}"));
+}
+
+/// Two records of one cell, neighbours or not, with other masses or the same: refused with the first record that names a cell again.
+#[test]
+fn a_cell_twice_is_refused() {
+    let apart = [(3, 1, 2), (0, 0, 6), (1, 1, 1), (0, 0, 6), (3, 1, 2)];
+    for (cells, cell, first, second) in [
+        (&apart[..], [0, 0, 6], 1, 3),
+        (&[(7, 7, 7), (7, 7, 7)], [7, 7, 7], 0, 1),
+        (&[(0, 0, 0), (1, 0, 0), (0, 0, 0)], [0, 0, 0], 0, 2),
+        (&[(5, 0, 0), (5, 0, 0), (5, 0, 0)], [5, 0, 0], 0, 1),
+    ] {
+        for step in [0.0, 1.0] {
+            let masses = (0..).map(|i| (step * i as f32, 2.0 - step * i as f32));
+            let records = cells.iter().zip(masses);
+            let records: Vec<_> = records
+                .map(|(&(x, y, z), (cauchy, elliptic))| (x, y, z, cauchy, elliptic))
+                .collect();
+            let twice = Twice {
+                cell,
+                first,
+                second,
+            };
+            refused_for(&file(8, &records), twice);
+        }
+    }
+    let short = Model::open(b"short").unwrap_err();
+    assert_eq!((short.refusal, short.twice), (Refusal::FileTooShort, None));
+    let words = "refused 1: file under 64 bytes";
+    assert_eq!([short.to_string(), format!("{short:?}")], [words; 2]);
+}
+
+/// Numbers of cells that agree in their low 16 bits, and cells whose coordinates do on some axes.
+#[test]
+fn cells_that_are_distinct() {
+    let cells = [(0, 0, 0), (0, 0, 16), (0, 16, 0), (16, 0, 0), (0, 0, 32)];
+    let bytes = file(64, &cells.map(|(x, y, z)| (x, y, z, 1.0, 1.0)));
+    let source = parse_mascon_bytes(&bytes, "file").unwrap();
+    let numbers: Vec<_> = source.points().map(|point| point.cell(64)).collect();
+    assert_eq!(numbers[..2], [Some(0), Some(65_536)]);
+    assert_eq!(Model::open(&bytes).unwrap().len(), 5);
+    assert_eq!(Tree::build(&bytes).unwrap().order_count(), 5);
+    assert!(check_points(&bytes, 9).is_clean());
+    let (model, dropped) = Model::fold(&bytes).unwrap();
+    assert_eq!((model.len(), dropped), (5, vec![]));
+}
+
+/// As many records as cells and one more, so that one cell is named twice.
+#[test]
+fn more_records_than_cells() {
+    let records = [(0, 0, 0, 1.0, 2.0), (0, 0, 0, 3.0, 4.0)];
+    let bytes = file(1, &records);
+    assert_eq!(Model::open(&bytes).unwrap_err(), Refusal::CellTwice);
+    let (model, dropped) = Model::fold(&bytes).unwrap();
+    assert_eq!(model.as_bytes(), file(1, &records[1..]));
+    assert_eq!(dropped.len(), 1);
+}
+
+#[test]
+fn folding_keeps_the_last_and_tells_the_others() {
+    let bytes = file(
+        4,
+        &[
+            (3, 1, 2, 1.0, 1.5),
+            (0, 1, 2, 5.0, 6.0),
+            (3, 1, 2, 2.0, 2.5),
+            (0, 1, 2, 5.0, 6.0),
+            (1, 1, 1, -0.0, 7.0),
+            (3, 1, 2, 3.0, 3.5),
+        ],
+    );
+    let (mut model, dropped) = Model::fold(&bytes).unwrap();
+    let points = file(
+        4,
+        &[
+            (1, 1, 1, -0.0, 7.0),
+            (0, 1, 2, 5.0, 6.0),
+            (3, 1, 2, 3.0, 3.5),
+        ],
+    );
+    assert_eq!(model.as_bytes(), points);
+    let of = |record: usize, kept: usize| Dropped {
+        record,
+        point: Point {
+            x: [3, 0, 3][record],
+            y: 1,
+            z: 2,
+            cauchy_mass: [1.0, 5.0, 2.0][record],
+            elliptic_mass: [1.5, 6.0, 2.5][record],
+        },
+        kept,
+    };
+    assert_eq!(dropped, [of(0, 5), of(1, 3), of(2, 5)]);
+    // It opens as it is, and is edited.
+    assert_eq!(Model::open(&points).unwrap().as_bytes(), points);
+    model.remove(3, 1, 2).unwrap();
+    model.undo().unwrap();
+    assert_eq!((model.as_bytes(), model.entries()), (&points[..], 0));
+}
+
+/// A file of distinct cells is folded as it is opened.
+#[test]
+fn distinct_cells_are_folded_as_opened() {
+    let mut shuffled = file(4, &[(3, 1, 2, 3.0, 3.5), (1, 1, 1, -0.0, 7.0)]);
+    shuffled[70] = 9;
+    shuffled.extend(b"notes");
+    let (model, dropped) = Model::fold(&shuffled).unwrap();
+    assert_eq!(model.as_bytes(), Model::open(&shuffled).unwrap().as_bytes());
+    assert_eq!(dropped, []);
+}
+
+/// Against a map that knows no bytes: the last record of each cell counts, every other one is dropped and told.
+#[test]
+fn folding_agrees_with_a_map() {
+    let mut rng = Rng(21);
+    let mut refused = 0;
+    for _ in 0..3_000 {
+        let grid = 1 + rng.below(4) as u16;
+        let records: Vec<_> = (0..rng.below(12))
+            .map(|_| {
+                let [x, y, z] = [0; 3].map(|_| rng.below(u64::from(grid)) as u16);
+                (x, y, z, rng.mass(), rng.mass())
+            })
+            .collect();
+        let bytes = file(u32::from(grid), &records);
+        let last: BTreeMap<_, _> = records
+            .iter()
+            .enumerate()
+            .map(|(i, &(x, y, z, ..))| ((z, y, x), i))
+            .collect();
+        let kept: Vec<_> = last.values().map(|&i| records[i]).collect();
+        let (model, dropped) = Model::fold(&bytes).unwrap();
+        assert_eq!(model.as_bytes(), file(u32::from(grid), &kept));
+        let counts = |i: usize| last[&(records[i].2, records[i].1, records[i].0)];
+        let wanted = (0..records.len()).filter(|&i| counts(i) != i);
+        assert!(dropped.iter().map(|d| d.record).eq(wanted));
+        for lost in &dropped {
+            let (.., cauchy, elliptic) = records[lost.record];
+            let masses = (lost.point.cauchy_mass, lost.point.elliptic_mass);
+            assert_eq!(masses, (cauchy, elliptic));
+            assert_eq!(lost.kept, counts(lost.record));
+        }
+        assert_eq!(check_points(&bytes, 0).total, dropped.len());
+        assert_eq!(Model::open(&bytes).is_err(), !dropped.is_empty());
+        refused += usize::from(!dropped.is_empty());
+    }
+    assert!(refused > 1_000 && refused < 2_900, "{refused}");
 }
 
 #[test]
@@ -118,6 +292,7 @@ fn refusals_of_files() {
         (with(92, &f32::INFINITY.to_le_bytes()), 7),
         // As many records as a word can count, at the finest grid.
         (with(8, &[0, 1, 0, 0, 255, 255, 255, 255]), 4),
+        (with(80, &[0]), 21),
     ];
     for (file, number) in cases {
         let refusal = Refusal::from_number(number).unwrap();
@@ -125,6 +300,15 @@ fn refusals_of_files() {
         assert_eq!(Tree::build(&file).unwrap_err(), refusal);
         assert_eq!(parse_mascon_bytes(&file, "a").unwrap_err().refusal, refusal);
         assert_eq!(check_points(&file, 1).faults[0].cause, Some(refusal));
+        let folded = Model::fold(&file).map(|(model, dropped)| (model.len(), dropped.len()));
+        assert_eq!(
+            folded,
+            if number == 21 {
+                Ok((1, 1))
+            } else {
+                Err(refusal)
+            }
+        );
     }
     let report = check_points(&with(80, &[4]), 9);
     assert_eq!(
@@ -217,7 +401,7 @@ fn refusals_of_fill() {
 
 #[test]
 fn every_cause_has_number_and_words() {
-    assert_eq!(Refusal::ALL.len(), 20);
+    assert_eq!(Refusal::ALL.len(), 21);
     for (i, &refusal) in Refusal::ALL.iter().enumerate() {
         assert_eq!(refusal.number(), i as u64 + 1);
         assert_eq!(Refusal::from_number(refusal.number()), Some(refusal));
@@ -228,7 +412,7 @@ fn every_cause_has_number_and_words() {
         assert!(!refusal.advice().is_empty());
         assert_eq!(String::from(refusal), refusal.to_string());
     }
-    assert_eq!(Refusal::from_number(21), None);
+    assert_eq!(Refusal::from_number(22), None);
 }
 
 #[test]
@@ -460,11 +644,21 @@ fn save_and_load() {
     assert_eq!(folder.names(), ["body.rtm1", "body.rym1"]);
 }
 
-/// The first fault listed has the cause by which the library refuses; a file without faults is accepted.
+/// Build refuses as open does, and fold but for 21. Whether it is that.
+fn folds_where_it_opens(bytes: &[u8], opened: Option<&OpenError>) -> bool {
+    assert_eq!(Tree::build(bytes).err().as_ref(), opened);
+    let refusal = opened.map(|error| error.refusal);
+    let twice = refusal == Some(Refusal::CellTwice);
+    let folded = Model::fold(bytes).err();
+    assert_eq!(folded, refusal.filter(|_| !twice));
+    twice
+}
+
+/// The first fault listed has the cause by which the library refuses, 21 after 1 to 7; a file without faults is accepted.
 #[test]
 fn check_agrees_with_the_library() {
     let mut rng = Rng(7);
-    let mut refused = 0;
+    let (mut refused, mut twice) = (0, 0);
     for _ in 0..20_000 {
         let grid = 1 + rng.below(5) as u16;
         let count = rng.below(6) as u32;
@@ -489,9 +683,10 @@ fn check_agrees_with_the_library() {
         let opened = Model::open(&bytes);
         assert_eq!(
             report.faults.first().map(|fault| fault.cause),
-            opened.as_ref().err().map(|&r| Some(r))
+            opened.as_ref().err().map(|error| Some(error.refusal))
         );
         refused += usize::from(opened.is_err());
+        twice += usize::from(folds_where_it_opens(&bytes, opened.as_ref().err()));
         if let Ok(model) = opened {
             let length =
                 64 + 16 * count.min(u32::from_le_bytes(bytes[12..16].try_into().unwrap())) as usize;
@@ -499,7 +694,10 @@ fn check_agrees_with_the_library() {
             assert_eq!(check_working_form(&bytes, 1).is_clean(), same);
         }
     }
-    assert!(refused > 2_000 && refused < 18_000, "{refused}");
+    assert!(
+        refused < 18_000 && twice > 1_000 && refused - twice > 2_000,
+        "{refused} {twice}"
+    );
 }
 
 /// Of a tree, each changed byte of header words, boxes, links, counts and order is seen.

@@ -549,7 +549,7 @@ fn a_save_that_was_cut_off() {
     assert_eq!(folder.names(), ["m", "other"]);
 }
 
-/// All causes of a point file, 10 after 1 to 7; a file of another kind has no list of records.
+/// All causes of a point file, 21 after 1 to 7, then 10; a file of another kind has no list of records.
 #[test]
 fn check_lists_every_cause() {
     let folder = Folder::new("every_cause");
@@ -567,7 +567,7 @@ fn check_lists_every_cause() {
     bad[70] = 1;
     fs::write(folder.file("bad"), &bad).unwrap();
     let ran = mascon(&folder, "check bad");
-    assert!(ran.err.contains("4 faults"), "{}", ran.err);
+    assert!(ran.err.contains("5 faults"), "{}", ran.err);
     let lines: Vec<&str> = ran.out.lines().collect();
     assert_eq!(
         lines,
@@ -576,14 +576,14 @@ fn check_lists_every_cause() {
             "cause 5: header, scale, byte 24: NaN is not finite",
             "cause 5: header, box min x, byte 32: min -8 is not below max -9",
             "cause 7: record 0, Cauchy mass, byte 72: inf is not finite",
+            "cause 21: record 2, x, byte 96: cell (0, 1, 2) again, first in record 1",
             "and not in working form:",
             "cause 10: record 0, pad, byte 70: 1 is not 0",
             "cause 10: record 1, x, byte 80: cell (0, 1, 2) stands after a later cell",
-            "cause 10: record 2, x, byte 96: cell (0, 1, 2) again, first in record 1: the later record counts",
         ]
     );
     let ran = mascon(&folder, "check bad --most 1");
-    assert!(ran.out.contains("... and 3 more"), "{}", ran.out);
+    assert!(ran.out.contains("... and 4 more"), "{}", ran.out);
     fs::write(folder.file("text"), "no point file\n".repeat(20)).unwrap();
     assert_eq!(mascon(&folder, "check text").out.lines().count(), 1);
 }
@@ -594,6 +594,7 @@ fn common_to_all_commands() {
     let folder = Folder::new("common");
     fs::write(folder.file("m"), file(4, &[(0, 1, 2, 5.0, 6.0)])).unwrap();
     for line in [
+        "fold m -o w --quiet",
         "open m -o w --quiet",
         "put w 1 1 1 1 1 --quiet",
         "--quiet undo w",

@@ -3,12 +3,14 @@ ghost use mathlib.Core.Path.{_≡_};
 ghost use Prim.Native.Nat.{ℕ, _+_, _*_, _≤_, _<_};
 ghost use lib.ListN.{length, getD, replicate};
 ghost use Rattle.rym1.specs.Bytes.{splice};
-ghost use Rattle.rym1.specs.File.{grid, count, cube, fileCause};
+ghost use Rattle.rym1.specs.Causes.{number};
+ghost use Rattle.rym1.specs.File.{grid, count, cube, fileCause, repeatCause};
 ghost use Rattle.lookup.specs.Lookup.{Looked, marked};
 use points::records::cell_number;
 use points::records::count;
 use points::records::grid;
 use points::records::point_at;
+use rym1::Cause;
 
 // The first n words become 0.
 fn clear(words: &mut [u32], n: usize)
@@ -73,4 +75,17 @@ pub fn count_marked(words: &[u32], n: usize) -> usize
         i += 1;
     }
     found
+}
+
+// The whole lookup, and 21 where two records name one cell: fewer cells are occupied then. It stands in the words either way.
+pub fn fill_distinct(words: &mut [u32], file: &[u8]) -> Cause
+    requires { ⌜ fileCause (now file) ≡ 0 ⌝ }
+    requires { ⌜ cube (grid (now file)) ≤ length (now words) ⌝ }
+    ensures { λ r. ⌜ (number r ≡ repeatCause (now (file .entry))) × Looked (now (words .exit)) (now (file .entry)) × (length (now (words .exit)) ≡ length (now (words .entry))) ⌝ }
+{
+    fill_lookup(words, file);
+    if count_marked(words, cells(grid(file))) < count(file) as usize {
+        return Cause::CellTwice;
+    }
+    Cause::Nothing
 }

@@ -1,62 +1,54 @@
 -- What build answers and leaves, way by way. Assumes nothing.
 use Prim.Native.Nat.{ℕ, _+_, _*_, _≤_, _<_}
-use mathlib.Core.Path.{_≡_, refl, sym, ap, _∙_}
-use mathlib.Core.Bool.{Bool, true, not}
+use mathlib.Core.Path.{_≡_, sym, ap, _∙_}
 use mathlib.Core.List.{List, _++_}
 use native.Mathlib.Omega.{arith}
 use lib.ListN.{length, length-append}
-use lib.Dec.{eqb, ltb}
+use lib.Dec.{ltb}
 use borrow.Author.Tests.{lt-ltb, le-ltb}
 use Rattle.rym1.specs.declared.Cause.{Cause}
-use Rattle.rym1.specs.declared.Cause.the-variants.{ScratchShort, OutputShort}
+use Rattle.rym1.specs.declared.Cause.the-variants.{OutputShort}
 use Rattle.rym1.specs.Bytes.{splice, wordsBytes}
 use Rattle.rym1.specs.Causes.{number, when, first, outcome, refuse}
-use Rattle.rym1.specs.File.{grid, cube, fileCause}
 use Rattle.rym1.proofs.Bytes.{length-splice, splice-splice, length-words}
 use Rattle.rym1.proofs.Causes.{first-found, refuse-found}
-use Rattle.points.proofs.Refused.{refused}
 use Rattle.rtm1.specs.declared.Built.{Built}
 use Rattle.rtm1.specs.declared.Built.the-variants.{Refused, Done}
 use Rattle.rtm1.specs.Tree.{nodeCount, order}
 use Rattle.rtm1.specs.Node.{frameOf, nodesBytes}
-use Rattle.rtm1.specs.Build.{headerWords, treeBytes, treeLength, fileTree, output, buildCause, build, answerOf, nodesOf, orderOf, told}
+use Rattle.rtm1.specs.Build.{headerWords, treeBytes, treeLength, fileTree, output, sourceCause, buildCause, build, answerOf, nodesOf, orderOf, told}
 use Rattle.rtm1.proofs.Bytes.{header-long, length-nodes}
+use Rattle.source.specs.Source.{Sourced}
 use Rattle.mascon_tree.specs.declared.Next.{Next}
 use Rattle.mascon_tree.specs.Written.{Space, Written, Building}
 
 module _ (f : List ℕ) (words : ℕ) (out : List ℕ) where
-  -- 1 to 7
-  build-file-refused : 0 < fileCause f → outcome (fileCause f) (output 0 0 out) ≡ build f words out
+  -- 1 to 8 and 21
+  build-source : 0 < sourceCause f words → outcome (sourceCause f words) (output 0 0 out) ≡ build f words out
   unfolding build buildCause
-  build-file-refused h =
-      rw (first-found (fileCause f) (first (when (ltb words (cube (grid f))) 8) (when (ltb (length out) (treeLength (fileTree f))) 9)) h)
-      (sym (refuse-found (fileCause f) (output 0 0 out) _ h))
+  build-source h =
+      rw (first-found (sourceCause f words) (when (ltb (length out) (treeLength (fileTree f))) 9) h) (sym (refuse-found (sourceCause f words) (output 0 0 out) _ h))
 
-  module _ (ok : fileCause f ≡ 0) where
-    build-8 : words < cube (grid f) → outcome 8 (output 0 0 out) ≡ build f words out
+  module _ (ok : sourceCause f words ≡ 0) where
+    build-9 : length out < treeLength (fileTree f) → outcome 9 (output 0 0 out) ≡ build f words out
     unfolding build buildCause first when refuse outcome
-    build-8 h = rw (ok, lt-ltb words (cube (grid f)) h)
+    build-9 h = rw (ok, lt-ltb (length out) (treeLength (fileTree f)) h)
 
-    module _ (scratch : cube (grid f) ≤ words) where
-      build-9 : length out < treeLength (fileTree f) → outcome 9 (output 0 0 out) ≡ build f words out
-      unfolding build buildCause first when refuse outcome
-      build-9 h = rw (ok, le-ltb words (cube (grid f)) scratch, lt-ltb (length out) (treeLength (fileTree f)) h)
+    build-done : treeLength (fileTree f) ≤ length out
+        → outcome (treeLength (fileTree f)) (output (nodeCount (fileTree f)) (length (order (fileTree f))) (splice out 0 (treeBytes f (fileTree f)))) ≡ build f words out
+    unfolding build buildCause first when refuse
+    build-done h = rw (ok, le-ltb (length out) (treeLength (fileTree f)) h)
 
-      build-done : treeLength (fileTree f) ≤ length out
-          → outcome (treeLength (fileTree f)) (output (nodeCount (fileTree f)) (length (order (fileTree f))) (splice out 0 (treeBytes f (fileTree f)))) ≡ build f words out
-      unfolding build buildCause first when refuse
-      build-done h = rw (ok, le-ltb words (cube (grid f)) scratch, le-ltb (length out) (treeLength (fileTree f)) h)
+-- ---- once 1 to 8 and 21 are passed: n nodes and k order words are counted
 
--- ---- once 1 to 8 are passed: n nodes and k order words are counted
-
-module _ (f out : List ℕ) (ok : fileCause f ≡ 0) (n k : ℕ) (en : n ≡ nodeCount (fileTree f)) (ek : k ≡ length (order (fileTree f))) where
+module _ (f out : List ℕ) (n k : ℕ) (en : n ≡ nodeCount (fileTree f)) (ek : k ≡ length (order (fileTree f))) where
   length-is : 64 + 80 * n + 4 * k ≡ treeLength (fileTree f)
   unfolding treeLength
   length-is = λ i. 64 + 80 * en i + 4 * ek i
 
   pub way-9 : length out < 64 + 80 * n + 4 * k → Building f out (Refused OutputShort) out
   unfolding told answerOf nodesOf orderOf number outcome
-  way-9 h = record { is = λ words enough. build-9 f words out ok enough (omega (arith, length-is)); past = omega arith }
+  way-9 h = record { is = λ words ok. build-9 f words out ok (omega (arith, length-is)); past = omega arith }
 
   module _ (room : 64 + 80 * n + 4 * k ≤ length out) where
     -- the room that the recursion asks for at the root, once the header is written
@@ -91,22 +83,15 @@ module _ (f out : List ℕ) (ok : fileCause f ≡ 0) (n k : ℕ) (en : n ≡ nod
         let answer : outcome (64 + 80 * n + 4 * k) (output n k out₂)
         ≡ outcome (treeLength (fileTree f)) (output (nodeCount (fileTree f)) (length (order (fileTree f))) (splice out 0 (treeBytes f (fileTree f)))) =
         λ i. outcome (length-is i) (output (en i) (ek i) (all-written out₁ out₂ next e₁ wrote i)) in
-        record { is = λ words enough. answer ∙ build-done f words out ok enough (omega (arith, length-is)); past = omega arith }
+        record { is = λ words ok. answer ∙ build-done f words out ok (omega (arith, length-is)); past = omega arith }
 
--- ---- the whole call, s the words of scratch
+-- ---- the whole call, s and s′ the words of scratch before and after
 
-module _ (f s out : List ℕ) where
-  pub way-refused : (cause : Cause) {r : Bool} → number cause ≡ fileCause f → r ≡ not (eqb (number cause) 0) → r ≡ true
-      → (told (Refused cause) out ≡ build f (length s) out) × (answerOf (Refused cause) ≤ 8 → s ≡ s)
+module _ (f s out s′ : List ℕ) (cause : Cause) (read : Sourced f s cause s′) where
+  pub way-refused : 0 < number cause → (told (Refused cause) out ≡ build f (length s) out) × (answerOf (Refused cause) ≤ 8 → s′ ≡ s)
   unfolding told answerOf nodesOf orderOf
-  way-refused cause e t h =
-      (ap (λ (n : ℕ). outcome n (output 0 0 out)) e ∙ build-file-refused f (length s) out (rw e at (refused (number cause) t h)), λ _. refl)
+  way-refused h =
+      (ap (λ (n : ℕ). outcome n (output 0 0 out)) (read .cause) ∙ build-source f (length s) out (rw (read .cause) at h), read .kept h)
 
-  module _ (ok : fileCause f ≡ 0) (n : ℕ) (en : n ≡ cube (grid f)) where
-    pub way-8 : length s < n → (told (Refused ScratchShort) out ≡ build f (length s) out) × (answerOf (Refused ScratchShort) ≤ 8 → s ≡ s)
-    unfolding told answerOf nodesOf orderOf number
-    way-8 h = (build-8 f (length s) out ok (omega (arith, en)), λ _. refl)
-
-    pub way-built : n ≤ length s → (s′ out′ : List ℕ) (answer : Built) → Building f out answer out′
-        → (told answer out′ ≡ build f (length s) out) × (answerOf answer ≤ 8 → s′ ≡ s)
-    way-built h s′ out′ answer b = (b .is (length s) (omega (arith, en)), λ low. absurd (let p = b .past in omega arith))
+  pub way-built : number cause ≡ 0 → (out′ : List ℕ) (answer : Built) → Building f out answer out′ → (told answer out′ ≡ build f (length s) out) × (answerOf answer ≤ 8 → s′ ≡ s)
+  way-built none out′ answer b = (b .is (length s) (sym (read .cause) ∙ none), λ low. absurd (let p = b .past in omega arith))

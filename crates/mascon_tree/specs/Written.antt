@@ -4,12 +4,11 @@ use mathlib.Core.Path.{_≡_}
 use mathlib.Core.List.{List}
 use lib.ListN.{length}
 use Rattle.rym1.specs.Bytes.{splice, wordsBytes}
-use Rattle.rym1.specs.File.{grid, cube}
 use Rattle.rtm1.specs.declared.Frame.{Frame}
 use Rattle.rtm1.specs.declared.Built.{Built}
 use Rattle.rtm1.specs.Tree.{Tree, nodeCount, order, occupied}
 use Rattle.rtm1.specs.Node.{nodesBytes}
-use Rattle.rtm1.specs.Build.{build, answerOf, told}
+use Rattle.rtm1.specs.Build.{sourceCause, build, answerOf, told}
 use Rattle.mascon_tree.specs.declared.Next.{Next}
 
 -- room for a tree whose root has place `node`, `before` points being ordered before it; order words start at the byte `at`
@@ -28,5 +27,5 @@ pub record Written (s : List ℕ) (at node before : ℕ) (r : Frame) (t : Tree) 
 
 -- the outcome, however many words of scratch there are, if they are enough; and the answer is none of 1 to 8
 pub record Building (f out : List ℕ) (answer : Built) (out′ : List ℕ) : Type 0 where
-  pub is : (words : ℕ) → cube (grid f) ≤ words → told answer out′ ≡ build f words out
+  pub is : (words : ℕ) → sourceCause f words ≡ 0 → told answer out′ ≡ build f words out
   pub past : 8 < answerOf answer

@@ -15,7 +15,7 @@ use Rattle.register.specs.Demand.{Demand, Carried, left}
 use Rattle.register.proofs.Plain.{file-of}
 use Rattle.register.proofs.Simulation.{working-is, height, builds}
 use Rattle.register.proofs.Simulated.{Simulated, simulated}
-use Rattle.register.proofs.Built.{build-laid, written-laid}
+use Rattle.register.proofs.Built.{build-laid, distinct-laid, written-laid}
 use Rattle.register.proofs.Leaves.{one-leaf, point-laid}
 
 -- the statement's last field, of a file, a register and a header that its header equals
@@ -51,6 +51,7 @@ from s r ks all =
       empty = all .empty;
       restored = all .restored;
       builds = builds (left s ks) r′ (all .rel);
+      distinct = distinct-laid r′ f l;
       tree-is = λ words out. build-laid r′ f l words out;
       tree-alone = λ rest words out. rw (file-of r′) (build-laid r′ _ (relaid (r′ .header) (r′ .cells) f l rest) words out);
       leaves = subst (λ (h : List ℕ). Leaves f r′ h) (all .header-is) (leaves-laid r′ f l);

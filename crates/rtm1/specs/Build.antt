@@ -5,7 +5,7 @@ use lib.ListN.{length}
 use lib.Dec.{ltb}
 use Rattle.rym1.specs.Bytes.{wordsBytes, splice}
 use Rattle.rym1.specs.Causes.{number, when, first, Outcome, outcome, refuse}
-use Rattle.rym1.specs.File.{grid, count, density, volume, scale, boxMin, boxMax, cube, fileCause}
+use Rattle.rym1.specs.File.{grid, count, density, volume, scale, boxMin, boxMax, cube, fileCause, repeatCause}
 use Rattle.rym1.specs.Cells.{look}
 use Rattle.rtm1.specs.declared.Built.{Built}
 use Rattle.rtm1.specs.declared.Built.the-variants.{Refused, Done}
@@ -55,12 +55,13 @@ pub record Output : Type 0 where
 unfoldable pub output : ℕ → ℕ → List ℕ → Output
 output n k s = record { nodes = n; order = k; out = s }
 
--- 1 to 7; 8, fewer than g³ words of scratch; 9, no room for the tree
+-- why no tree is made of a point file, with so many words of scratch lent: 1 to 7; 8, fewer than g³ words; 21
+unfoldable pub sourceCause : List ℕ → ℕ → ℕ
+sourceCause f words = first (fileCause f) (first (when (ltb words (cube (grid f))) 8) (repeatCause f))
+
+-- that; 9, no room for the tree
 unfoldable pub buildCause : List ℕ → ℕ → List ℕ → ℕ
-buildCause f words out =
-    first (fileCause f)
-    (first (when (ltb words (cube (grid f))) 8)
-    (when (ltb (length out) (treeLength (fileTree f))) 9))
+buildCause f words out = first (sourceCause f words) (when (ltb (length out) (treeLength (fileTree f))) 9)
 
 -- f: the point file; words: how many words of scratch; out: the output at entry
 unfoldable pub build : List ℕ → ℕ → List ℕ → Outcome Output

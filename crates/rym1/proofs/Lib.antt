@@ -5,6 +5,7 @@ pub mod Accepted
 pub mod Points
 pub mod Cells
 pub mod Opened
+pub mod Repeated
 pub mod Journal
 pub mod Models
 pub mod Changes

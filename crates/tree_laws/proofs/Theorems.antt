@@ -9,11 +9,12 @@ use mathlib.Core.List.{List, _++_}
 use native.Mathlib.Nat.{le-trans}
 use native.Mathlib.Omega.{arith}
 use lib.ListN.{length, take, drop}
-use Rattle.rym1.specs.File.{grid, count, pointAt, cell, cellOf, cube, fileCause}
+use Rattle.rym1.specs.File.{grid, count, pointAt, cell, cellOf, cube, fileCause, repeatCause}
 use Rattle.rym1.specs.Cells.{Masses, Slot, held, massesOf, look}
 use Rattle.rym1.proofs.Bytes.{AllBytes, word-lt}
 use Rattle.rym1.proofs.Accepted.{Inside, accepted}
 use Rattle.rym1.proofs.Cells.{cell-low, cube-few}
+use Rattle.rym1.proofs.Repeated.{file-only-record}
 use Rattle.rtm1.specs.declared.Cells.{Cells}
 use Rattle.rtm1.specs.declared.Axis.{Axis}
 use Rattle.rtm1.specs.declared.Kind.the-variants.{Split}
@@ -35,7 +36,7 @@ use Rattle.rtm1.proofs.Read as reading
 use Rattle.rtm1.proofs.Build.{build-out}
 use Rattle.rtm1.specs.Read.{Turn, nodesIn, orderWords, leafWords, walk, Reads, Measures}
 use Rattle.tree_laws.specs.Said.{_∈_, _~_, times, In, Part, OneOf, Found, Holds, Somewhere, Distinct, Leads, place, ahead, LeafOf, Stands, OneLeaf}
-use Rattle.tree_laws.proofs.Lists.{perm-times}
+use Rattle.tree_laws.proofs.Lists.{perm-times, each-once}
 use Rattle.tree_laws.proofs.Boxes.{in-halves}
 use Rattle.tree_laws.proofs.Visit.{visit-are, in-one-half, visit-once, index-from}
 use Rattle.tree_laws.proofs.Leaves.{leads-one, node-is, leaf-is, stands}
@@ -216,6 +217,14 @@ module _ (f : List ℕ) (ok : fileCause f ≡ 0) where
   file-index-once c i h =
       let (inside, holds) = file-place f ok c i h in
       index-once (look f) (grid f) (whole (grid f)) root (file-distinct f) _ _ _ i inside holds
+
+  -- of a file in which no two records name one cell: each record's, so that there are as many order words as records,
+  pub file-record-once : repeatCause f ≡ 0 → (k : ℕ) → k < count f → times k (order (fileTree f)) ≡ 1
+  file-record-once once k h = file-index-once _ k (_, file-only-record f once k h)
+
+  pub file-order-count : repeatCause f ≡ 0 → length (order (fileTree f)) ≡ count f
+  file-order-count once =
+      each-once (count f) (order (fileTree f)) (file-record-once once) (λ i m. let (c, h) = file-order-has i .0 m in file-record f c i (h .0) (h .1) .0)
 
   -- and in no other leaf's words than those of the leaf that has the cell
   pub file-index-in-one-leaf : (c i : ℕ) (h : Holds (look f) c i) (way : List Turn) (b : Cells) (s : Sums) (is : List ℕ) → Leads (fileTree f) way (leaf b s is) → i ∈ is

@@ -2,13 +2,13 @@
 
 use crate::open::cases::{
     coordinate, coordinates_and_masses, file_length, finite, header, header_float, header_word,
-    kind, mass, mutated, not_read, nothing, one_in, pick, scratch_length, several_of, shuffle,
-    small_grid, sparse, up_to, with_records_of, word, Case, Kind, FINITE,
+    kind, mass, mutated, not_read, nothing, one_in, pick, same_masses, scratch_length, several_of,
+    short_buffers, shuffle, small_grid, sparse, up_to, with_records_of, word, Case, Kind, FINITE,
 };
 use crate::points::{point_file, Header, Record};
 use crate::rng::Rng;
-use crate::rule::cell_of;
 use crate::rule::tree::tree;
+use crate::rule::{cell_of, folded};
 
 /// Cells in ascending order, at a grid size.
 type Shape = fn(&mut Rng, usize) -> Vec<usize>;
@@ -16,7 +16,7 @@ type Shape = fn(&mut Rng, usize) -> Vec<usize>;
 /// Masses for so many points, in cell order.
 type Masses = fn(&mut Rng, usize) -> Vec<f32>;
 
-pub(crate) const KINDS: [Kind; 21] = [
+pub(crate) const KINDS: [Kind; 22] = [
     kind("every grid size", 16_000, every_grid, nothing),
     kind("full grids", 1_200, full_grid, nothing),
     kind("touching balls", 8_000, balls, nothing),
@@ -25,12 +25,12 @@ pub(crate) const KINDS: [Kind; 21] = [
     kind("cancelling masses", 60_000, cancelling, nothing),
     kind("extreme masses", 40_000, extreme, nothing),
     kind("uneven boxes", 40_000, uneven, nothing),
-    kind("repeated cells", 30_000, repeated, nothing),
+    kind("repeated cells", 30_000, repeated, same_masses),
     kind("junk not read", 20_000, small, not_read),
     kind("large grids", 160, large, large_lengths),
-    kind("header floats", 20_000, small, header_float),
-    kind("header words", 20_000, small, header_word),
-    kind("file lengths", 20_000, small, file_length),
+    kind("header floats", 20_000, any_cells, header_float),
+    kind("header words", 20_000, any_cells, header_word),
+    kind("file lengths", 20_000, any_cells, file_length),
     kind("coordinates", 20_000, with_records, coordinate),
     kind("masses", 20_000, with_records, mass),
     kind(
@@ -39,10 +39,11 @@ pub(crate) const KINDS: [Kind; 21] = [
         with_records,
         coordinates_and_masses,
     ),
-    kind("scratch lengths", 30_000, small, scratch_length),
-    kind("output lengths", 40_000, small, output_length),
-    kind("several causes", 60_000, small, several),
-    kind("mutated bytes", 40_000, small, mutated),
+    kind("scratch lengths", 30_000, any_cells, scratch_length),
+    kind("output lengths", 40_000, any_cells, output_length),
+    kind("several causes", 60_000, any_cells, several),
+    kind("mutated bytes", 40_000, any_cells, mutated),
+    kind("21 and short buffers", 30_000, repeated, short_buffers),
 ];
 
 /// Masses such as a body has.
@@ -54,9 +55,9 @@ const CANCELLING: [Masses; 4] = [balanced, balanced, near_nothing, far];
 /// Masses at the edges of what is finite.
 const EXTREME: [Masses; 4] = [zeros, edges, huge, any];
 
-/// A file as it stands, with just enough room for its tree; build has no journal.
+/// A file as it stands, with just enough room for the tree of the folded one; build has no journal.
 pub(crate) fn exact(file: Vec<u8>, grid: usize, records: usize) -> Case {
-    let (_, built) = tree(&file);
+    let (_, built) = tree(&folded(&file));
     let mut case = Case::of(file, grid, records);
     case.needed = built.answer as usize;
     case.out = case.needed;
@@ -180,8 +181,13 @@ fn small(rng: &mut Rng) -> Case {
     of_masses(rng, &USUAL)
 }
 
+/// Each cell once, mostly.
+fn any_cells(rng: &mut Rng) -> Case {
+    pick(rng, &[small, small, small, repeated])(rng)
+}
+
 fn with_records(rng: &mut Rng) -> Case {
-    with_records_of(rng, small)
+    with_records_of(rng, any_cells)
 }
 
 /// Any header floats and any masses.

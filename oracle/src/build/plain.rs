@@ -3,6 +3,7 @@
 use super::Build;
 use crate::bench::{cell, enter, float, points, word, NONE};
 use crate::ffi::Built;
+use crate::open::plain::Twice;
 
 #[derive(Clone, Copy, PartialEq)]
 pub(super) enum Fault {
@@ -17,15 +18,14 @@ pub(super) enum Fault {
     LeafOfNine,
     NoThreshold,
     HalfOfX,
-    HeaderHasOrderCount,
     DensityBeforeScale,
     LeafStartsAtZero,
     EmptyCentresAtZero,
-    FirstRecordCounts,
+    Twice(Twice),
 }
 
 /// Build with each fault, and a kind of case that shows it.
-pub(crate) const FAULTS: [(Build, &str); 15] = [
+pub(crate) const FAULTS: [(Build, &str); 17] = [
     (|f, s, o| plain_build(Fault::OneRoot, f, s, o), "full grids"),
     (
         |f, s, o| plain_build(Fault::NoRecordOfAnEmptyChild, f, s, o),
@@ -64,10 +64,6 @@ pub(crate) const FAULTS: [(Build, &str); 15] = [
         "uneven boxes",
     ),
     (
-        |f, s, o| plain_build(Fault::HeaderHasOrderCount, f, s, o),
-        "repeated cells",
-    ),
-    (
         |f, s, o| plain_build(Fault::DensityBeforeScale, f, s, o),
         "uneven boxes",
     ),
@@ -80,8 +76,20 @@ pub(crate) const FAULTS: [(Build, &str); 15] = [
         "rows and planes",
     ),
     (
-        |f, s, o| plain_build(Fault::FirstRecordCounts, f, s, o),
+        |f, s, o| plain_build(Fault::Twice(Twice::OnlyNeighbours), f, s, o),
         "repeated cells",
+    ),
+    (
+        |f, s, o| plain_build(Fault::Twice(Twice::ByMasses), f, s, o),
+        "repeated cells",
+    ),
+    (
+        |f, s, o| plain_build(Fault::Twice(Twice::BeforeScratch), f, s, o),
+        "21 and short buffers",
+    ),
+    (
+        |f, s, o| plain_build(Fault::Twice(Twice::AfterOutput), f, s, o),
+        "21 and short buffers",
     ),
 ];
 
@@ -236,9 +244,6 @@ impl Plain<'_> {
     fn written(&self, file: &[u8]) -> Vec<u8> {
         let mut words: Vec<u32> = (0..16).map(|at| word(file, 4 * at)).collect();
         [words[0], words[1]] = [0x314d_5452, 2];
-        if self.has(Fault::HeaderHasOrderCount) {
-            words[3] = self.order.len() as u32;
-        }
         if !self.has(Fault::DensityBeforeScale) {
             words[4..7].rotate_right(1);
         }
@@ -255,21 +260,17 @@ pub(super) fn plain_build(fault: Fault, file: &[u8], scratch: &mut [u32], out: &
     built(fault, file, scratch, out).unwrap_or_else(Built::refused)
 }
 
-/// Enters each cell's first record.
-fn enter_first(grid: usize, records: &[[u8; 16]], lookup: &mut [u32]) {
-    for (index, record) in records.iter().enumerate().rev() {
-        let [x, y, z] = cell(record);
-        lookup[(z * grid + y) * grid + x] = index as u32;
-    }
-}
-
 fn built(fault: Fault, file: &[u8], scratch: &mut [u32], out: &mut [u8]) -> Result<Built, u64> {
     let (grid, records) = points(file)?;
+    let twice = match fault {
+        Fault::Twice(twice) => twice,
+        _ => Twice::Told,
+    };
+    let judged = twice.judged(grid, records);
+    twice.after(0, judged)?;
     let lookup = scratch.get_mut(..grid.pow(3)).ok_or(8u64)?;
+    twice.after(1, judged)?;
     enter(grid, records, lookup);
-    if fault == Fault::FirstRecordCounts {
-        enter_first(grid, records, lookup);
-    }
     let [min, max] = [32, 44].map(|at| axes(|axis| f64::from(float(file, at + 4 * axis))));
     let mut plain = Plain {
         fault,
@@ -283,9 +284,9 @@ fn built(fault: Fault, file: &[u8], scratch: &mut [u32], out: &mut [u8]) -> Resu
     };
     plain.node([0; 3], [grid; 3]);
     let tree = plain.written(file);
-    out.get_mut(..tree.len())
-        .ok_or(9u64)?
-        .copy_from_slice(&tree);
+    let out = out.get_mut(..tree.len()).ok_or(9u64)?;
+    twice.after(2, judged)?;
+    out.copy_from_slice(&tree);
     Ok(Built {
         answer: tree.len() as u64,
         nodes: plain.nodes.len() as u64,

@@ -190,7 +190,8 @@ fn wide(cell: [u16; 3]) -> [u32; 3] {
 /// Cells that calls name: some of the file's, few or many at random, at times the first and the last.
 fn pool(rng: &mut Rng, file: &[u8], grid: usize) -> Vec<[u32; 3]> {
     let g = grid as u64;
-    let mut numbers: Vec<u64> = rule::cells(file).into_keys().collect();
+    let cells = rule::cells(file).into_iter();
+    let mut numbers: Vec<u64> = cells.map(|(number, _)| number).collect();
     shuffle(rng, &mut numbers);
     numbers.truncate(rng.range(1, 6) as usize);
     let most = pick(rng, &[6, 6, 6, 60]);
@@ -297,18 +298,23 @@ fn drawn(rng: &mut Rng, opened: opened::Case, mix: Mix, count: u64) -> History {
     }
 }
 
+/// A file that open accepts, in any order.
+fn accepted(rng: &mut Rng) -> opened::Case {
+    any_order(rng).once()
+}
+
 fn short(rng: &mut Rng, number: usize) -> History {
-    let opened = any_order(rng);
+    let opened = accepted(rng);
     drawn(rng, opened, EVEN, number as u64 % 9)
 }
 
 fn middling(rng: &mut Rng, _: usize) -> History {
-    let (opened, count) = (any_order(rng), rng.range(9, 40));
+    let (opened, count) = (accepted(rng), rng.range(9, 40));
     drawn(rng, opened, EVEN, count)
 }
 
 fn long(rng: &mut Rng, number: usize) -> History {
-    let opened = any_order(rng);
+    let opened = accepted(rng);
     let count = if number.is_multiple_of(16) {
         200
     } else {
@@ -320,7 +326,7 @@ fn long(rng: &mut Rng, number: usize) -> History {
 
 /// Room for none, one or two more records, less some bytes or more.
 fn full_buffer(rng: &mut Rng, number: usize) -> History {
-    let (opened, count) = (any_order(rng), rng.range(2, 24));
+    let (opened, count) = (accepted(rng), rng.range(2, 24));
     let needed = opened.needed;
     let mut history = drawn(rng, opened, MOSTLY_PUTS, count);
     history.bytes = needed + number % 50;
@@ -329,20 +335,20 @@ fn full_buffer(rng: &mut Rng, number: usize) -> History {
 
 /// Words for none to five entries, less a word or more.
 fn full_journal(rng: &mut Rng, number: usize) -> History {
-    let (opened, count) = (any_order(rng), rng.range(2, 24));
+    let (opened, count) = (accepted(rng), rng.range(2, 24));
     let mut history = drawn(rng, opened, MOSTLY_PUTS, count);
     history.words = FIRST + number % 18;
     history
 }
 
 fn refused(rng: &mut Rng, _: usize) -> History {
-    let (opened, count) = (any_order(rng), rng.range(1, 24));
+    let (opened, count) = (accepted(rng), rng.range(1, 24));
     drawn(rng, opened, MOSTLY_REFUSED, count)
 }
 
 /// Edits, then as many undos and up to two more, then some calls again.
 fn there_and_back(rng: &mut Rng, _: usize) -> History {
-    let (opened, count) = (any_order(rng), rng.range(1, 12));
+    let (opened, count) = (accepted(rng), rng.range(1, 12));
     let (cells, grid) = (pool(rng, &opened.file, opened.grid), opened.grid);
     let mut history = drawn(rng, opened, [3, 2, 0, 0], count);
     let undos = count + rng.below(3);
@@ -363,7 +369,8 @@ fn large_grid(rng: &mut Rng, number: usize) -> History {
     let opened = match grid {
         Some(grid) => opened::few_records(rng, grid),
         None => large(rng),
-    };
+    }
+    .once();
     let count = rng.range(1, 30);
     let mut history = drawn(rng, opened, EVEN, count);
     history.builds = history.grid <= 48 || number.is_multiple_of(32);
@@ -372,7 +379,7 @@ fn large_grid(rng: &mut Rng, number: usize) -> History {
 
 /// What some calls leave in both buffers, with one to three calls to come.
 fn left_by_calls(rng: &mut Rng) -> Case {
-    let (opened, count) = (any_order(rng), rng.range(0, 6));
+    let (opened, count) = (accepted(rng), rng.range(0, 6));
     let (cells, grid) = (pool(rng, &opened.file, opened.grid), opened.grid);
     let mut history = drawn(rng, opened, [6, 4, 1, 0], count);
     history.words = history.words.max(FIRST + ENTRY);

@@ -1,7 +1,8 @@
 //! A second implementation of the three calls, on a list of records, and the faults that tests plant in it.
 
 use super::Edit;
-use crate::bench::{cell, float, points, word};
+use crate::bench::{float, number, points, word};
+use crate::open::plain::Twice;
 use crate::rule::edit::Call;
 
 /// Declares the faults, and the three calls with each of them beside a kind of case that shows it.
@@ -60,6 +61,7 @@ faults! {
     LastRecordNotJudged: "masses",
     FlatBoxAllowed: "header floats",
     NoRoomIs16: "cut buffers",
+    EditSays21: "not in working form",
 }
 
 /// What becomes of the records.
@@ -117,13 +119,11 @@ fn judged(fault: Fault, file: &[u8]) -> Result<(usize, &[[u8; 16]]), u64> {
     Ok((grid, &file[64..].as_chunks().0[..word(file, 12) as usize]))
 }
 
-fn number(grid: usize, record: &[u8; 16]) -> u64 {
-    let [x, y, z] = cell(record);
-    ((z * grid + y) * grid + x) as u64
-}
-
 /// Cause 10.
 fn form(fault: Fault, grid: usize, records: &[[u8; 16]]) -> Result<(), u64> {
+    if fault == Fault::EditSays21 {
+        Twice::Told.judged(grid, records)?;
+    }
     let ascending = records.is_sorted_by(|a, b| number(grid, a) < number(grid, b));
     let padded = records.iter().all(|record| record[6..8] == [0, 0]);
     let good =
@@ -187,7 +187,7 @@ impl Plain<'_> {
     }
 
     fn place(&self, cell: u64) -> Result<usize, usize> {
-        let number = |record: &[u8; 16]| number(self.grid as usize, record);
+        let number = |record: &[u8; 16]| number(self.grid as usize, record) as u64;
         self.records.binary_search_by_key(&cell, number)
     }
 

@@ -1,8 +1,9 @@
-//! Point files and lengths of buffers to open, drawn by kind.
+//! Point files and lengths of buffers to open and to fold, drawn by kind.
 
 use crate::points::{point_file, Header, Record};
 use crate::rng::Rng;
 use crate::rule::{cell_of, AXES, FLOATS, HEADER, RECORD};
+use std::collections::BTreeSet;
 
 /// What one call is lent; the buffers' contents come from `junk`.
 pub(crate) struct Case {
@@ -11,7 +12,7 @@ pub(crate) struct Case {
     pub(crate) out: usize,
     pub(crate) journal: usize,
     pub(crate) junk: u32,
-    /// Of the file before any damage: grid size, records, the length of what an accepted call writes.
+    /// Of the file before any damage: grid size, records, the length of what an accepted call writes, where a cell is repeated once it is folded.
     pub(crate) grid: usize,
     pub(crate) records: usize,
     pub(crate) needed: usize,
@@ -42,10 +43,10 @@ pub(crate) const fn kind<C>(
     }
 }
 
-pub(crate) const KINDS: [Kind; 16] = [
+pub(crate) const KINDS: [Kind; 17] = [
     kind("working form", 80_000, ascending, nothing),
     kind("shuffled", 80_000, shuffled, nothing),
-    kind("repeated cells", 80_000, repeated, nothing),
+    kind("repeated cells", 80_000, repeated, same_masses),
     kind("junk not read", 80_000, any_order, not_read),
     kind("large grids", 2_000, large, large_lengths),
     kind("header floats", 100_000, any_order, header_float),
@@ -64,6 +65,7 @@ pub(crate) const KINDS: [Kind; 16] = [
     kind("journal lengths", 80_000, any_order, journal_length),
     kind("several causes", 120_000, any_order, several),
     kind("mutated bytes", 120_000, any_order, mutated),
+    kind("21 and short buffers", 80_000, repeated, short_buffers),
 ];
 
 /// Damage that open and build have in common, for `several_of`.
@@ -80,12 +82,12 @@ const DAMAGES: [Damage; 7] = [
 /// The answers that kinds of damage to the file alone reach, by open and by build.
 #[cfg(test)]
 pub(crate) const DAMAGE_ANSWERS: [(&str, &[u64]); 6] = [
-    ("header floats", &[5, 64]),
-    ("header words", &[2, 3, 4, 6, 8, 64]),
-    ("file lengths", &[1, 4, 64]),
-    ("coordinates", &[6, 64]),
-    ("masses", &[7, 64]),
-    ("6 and 7 together", &[6, 7, 64]),
+    ("header floats", &[5, 21, 64]),
+    ("header words", &[2, 3, 4, 6, 8, 21, 64]),
+    ("file lengths", &[1, 4, 21, 64]),
+    ("coordinates", &[6, 21, 64]),
+    ("masses", &[7, 21, 64]),
+    ("6 and 7 together", &[6, 7, 21, 64]),
 ];
 
 /// Float bits: NaNs of both signs, quiet and signalling, and the infinities.
@@ -175,7 +177,20 @@ impl Case {
         HEADER + RECORD * self.records
     }
 
-    /// The bytes of what open and build are both lent.
+    /// The same file with each cell's later record alone.
+    pub(crate) fn once(mut self) -> Self {
+        let (records, behind) = self.file[HEADER..].split_at(RECORD * self.records);
+        let mut seen = BTreeSet::new();
+        let later = records.chunks(RECORD).rev();
+        let mut kept: Vec<&[u8]> = later.filter(|record| seen.insert(&record[..6])).collect();
+        kept.reverse();
+        self.records = kept.len();
+        self.file = [&self.file[..HEADER], &kept.concat(), behind].concat();
+        self.put_word(12, self.records as u32);
+        self
+    }
+
+    /// The bytes of what open, fold and build are all lent.
     pub(crate) fn size(&self) -> usize {
         self.file.len() + 4 * self.scratch + self.out
     }
@@ -356,6 +371,16 @@ fn repeated(rng: &mut Rng) -> Case {
         _ => (),
     }
     with_cells(rng, grid, &numbers)
+}
+
+/// Once in four, every record with the masses of the first one.
+pub(crate) fn same_masses(_: &mut Rng, number: usize, case: &mut Case) {
+    let masses = HEADER + 8;
+    let others = 1..case.records;
+    for record in others.filter(|_| number.is_multiple_of(4)) {
+        let to = masses + RECORD * record;
+        case.file.copy_within(masses..masses + 8, to);
+    }
 }
 
 /// One of the three above, with junk in what is not read once in two.
@@ -612,6 +637,19 @@ fn output_length(rng: &mut Rng, number: usize, case: &mut Case) {
     ];
     case.out = lengths[number % lengths.len()];
     if one_in(rng, 4) {
+        case.journal = 0;
+    }
+}
+
+/// Scratch, output and journal, each short once in two.
+pub(crate) fn short_buffers(rng: &mut Rng, number: usize, case: &mut Case) {
+    if number & 1 != 0 {
+        case.scratch = pick(rng, &[0, case.grid.pow(3) - 1]);
+    }
+    if number & 2 != 0 {
+        case.out = pick(rng, &[0, 63, case.needed - 1]);
+    }
+    if number & 4 != 0 {
         case.journal = 0;
     }
 }

@@ -1,8 +1,7 @@
 //! 01's rule for tree files, written from its sentences: a box's points are those of the box above it that lie in it.
 
-use super::{cell_number, count, float, grid, judge, records, word};
+use super::{cell_number, count, float, grid, judge_distinct, records, word, Record};
 use crate::ffi::Built;
-use std::collections::BTreeMap;
 
 pub(crate) const HEADER: usize = 64;
 pub(crate) const NODE: usize = 80;
@@ -19,7 +18,7 @@ const NO_SUM: f64 = 1e-30;
 /// The link to a child without points, and of a node without children.
 const NO_LINK: f64 = -1.0;
 
-/// An occupied cell: its coordinates, its last record's index in the file and masses.
+/// An occupied cell: its coordinates, its record's index in the file and masses.
 struct Point {
     index: u32,
     place: [f64; 3],
@@ -64,21 +63,16 @@ fn axes<T>(value: impl Fn(usize) -> T) -> [T; 3] {
     [value(0), value(1), value(2)]
 }
 
-/// The occupied cells of a file that `judge` lets pass, by cell number: z outermost, x innermost.
+/// The occupied cells of a file that 21 lets pass, by cell number: z outermost, x innermost.
 fn points(file: &[u8]) -> Vec<Point> {
-    let g = grid(file);
-    let last: BTreeMap<u64, Point> = (0..)
-        .zip(records(file))
-        .map(|(index, record)| {
-            let point = Point {
-                index,
-                place: record.cell.map(f64::from),
-                masses: record.masses.map(|mass| f64::from(f32::from_bits(mass))),
-            };
-            (cell_number(g, record.cell), point)
-        })
-        .collect();
-    last.into_values().collect()
+    let mut records: Vec<_> = (0..).zip(records(file)).collect();
+    records.sort_by_key(|(_, record)| cell_number(grid(file), record.cell));
+    let point = |(index, record): (u32, Record)| Point {
+        index,
+        place: record.cell.map(f64::from),
+        masses: record.masses.map(|mass| f64::from(f32::from_bits(mass))),
+    };
+    records.into_iter().map(point).collect()
 }
 
 impl Cells {
@@ -275,7 +269,7 @@ fn put(bytes: &mut Vec<u8>, words: &[u32]) {
     bytes.extend(words.iter().flat_map(|word| word.to_le_bytes()));
 }
 
-/// The tree file of a file that `judge` lets pass, its length in `answer`, with its counts.
+/// The tree file of a file that 21 lets pass, its length in `answer`, with its counts.
 pub(crate) fn tree(file: &[u8]) -> (Vec<u8>, Built) {
     let points = points(file);
     let mut tree = Tree::default();
@@ -300,13 +294,10 @@ pub(crate) fn tree(file: &[u8]) -> (Vec<u8>, Built) {
     (bytes, built)
 }
 
-/// Build: 1 to 7, 8, 9; then the tree stands in `out`.
+/// Build: 1 to 7, 8, 21, 9; then the tree stands in `out`.
 pub(crate) fn build(file: &[u8], scratch_words: u64, out: &mut [u8]) -> Built {
-    if let Some(cause) = judge(file) {
+    if let Some(cause) = judge_distinct(file, scratch_words) {
         return Built::refused(cause);
-    }
-    if scratch_words < grid(file).pow(3) {
-        return Built::refused(8);
     }
     let (tree, built) = tree(file);
     if out.len() < tree.len() {
@@ -319,10 +310,10 @@ pub(crate) fn build(file: &[u8], scratch_words: u64, out: &mut [u8]) -> Built {
 #[cfg(test)]
 mod tests {
     use super::*;
-    use crate::points::{point_file, Header, Record};
+    use crate::points::{self, point_file, Header};
 
-    fn record(x: u16, y: u16, z: u16) -> Record {
-        Record {
+    fn record(x: u16, y: u16, z: u16) -> points::Record {
+        points::Record {
             cell: [x, y, z],
             cauchy_mass: 3.0,
             elliptic_mass: 0.0,
@@ -381,10 +372,10 @@ mod tests {
 
     #[test]
     fn models_of_more_cells() {
-        let all: Vec<Record> = (0..8).map(|i| record(i & 1, i >> 1 & 1, i >> 2)).collect();
+        let all: Vec<_> = (0..8).map(|i| record(i & 1, i >> 1 & 1, i >> 2)).collect();
         let (_, counts) = tree(&point_file(Header::cube(2, 2.0), &all));
         assert_eq!(counts, built(176, 1, 8));
-        let plane: Vec<Record> = (0..9).map(|i| record(i % 3, i / 3, 0)).collect();
+        let plane: Vec<_> = (0..9).map(|i| record(i % 3, i / 3, 0)).collect();
         let (plane, counts) = tree(&point_file(Header::cube(3, 3.0), &plane));
         assert_eq!(counts, built(340, 3, 9));
         assert_eq!(order(&plane, 3), [0, 3, 6, 1, 2, 4, 5, 7, 8]);
@@ -404,17 +395,17 @@ mod tests {
         assert_eq!([24, 28].map(|at| node_float(&corner, 1, at)), [2.0, 3.0]);
     }
 
-    /// Header n counts records, the order cells; an order word is the later record's index; scale stands before density.
+    /// An order word is a record's index in the file; scale stands before density.
     #[test]
-    fn repeated_cells_and_header() {
+    fn order_and_header() {
         let header = Header {
             constant_density: 5.0,
             cell_volume: 6.0,
             cauchy_scale: -0.0,
             ..Header::cube(2, 2.0)
         };
-        let (tree, counts) = tree(&point_file(header, &[record(1, 0, 0), record(1, 0, 0)]));
-        assert_eq!(counts, built(148, 1, 1));
+        let (tree, counts) = tree(&point_file(header, &[record(1, 0, 0), record(0, 0, 0)]));
+        assert_eq!(counts, built(152, 1, 2));
         let words: Vec<u32> = (0..16).map(|i| word(&tree, 4 * i)).collect();
         assert_eq!(words[..4], [MARK, VERSION, 2, 2]);
         assert_eq!(
@@ -424,7 +415,7 @@ mod tests {
         assert_eq!(words[8..11], [0; 3]);
         assert_eq!(words[11..14], [2f32.to_bits(); 3]);
         assert_eq!(words[14..], [1, 0]);
-        assert_eq!(order(&tree, 1), [1]);
+        assert_eq!(order(&tree, 1), [1, 0]);
     }
 
     /// A sum of 1e-30 itself has no centre of its own, the next number has one.
@@ -484,5 +475,9 @@ mod tests {
         assert_eq!(answer(&file, 8, 147), built(9, 0, 0));
         assert_eq!(answer(&file, 7, 147), built(8, 0, 0));
         assert_eq!(answer(&file[..79], 0, 0), built(4, 0, 0));
+        let twice = point_file(Header::cube(2, 2.0), &[record(1, 0, 0); 2]);
+        assert_eq!(answer(&twice, 8, 152), built(21, 0, 0));
+        assert_eq!(answer(&twice, 8, 0), built(21, 0, 0));
+        assert_eq!(answer(&twice, 7, 152), built(8, 0, 0));
     }
 }

@@ -154,7 +154,7 @@ mod tests {
         let answers = tally(stored.iter().map(|stored| stored.built.answer.min(64)));
         let trees = tally(stored.iter().map(|stored| stored.built.nodes));
         assert!(
-            answers.keys().eq(&[1, 2, 3, 4, 5, 6, 7, 8, 9, 64]),
+            answers.keys().eq(&[1, 2, 3, 4, 5, 6, 7, 8, 9, 21, 64]),
             "{answers:?}"
         );
         assert!(answers.values().all(|&cases| cases >= 4), "{answers:?}");

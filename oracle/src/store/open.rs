@@ -8,7 +8,7 @@ use super::blocks::{bytes_of, in_turn, kept, laid, lend, unlike, words_of, Block
 use crate::ffi;
 use crate::lent::Lent;
 use crate::open::cases::{Case, KINDS};
-use crate::open::{journal_word, out_byte};
+use crate::open::{journal_word, out_byte, Open};
 use crate::original::Verdict;
 use crate::rule;
 
@@ -108,7 +108,7 @@ impl Block for Stored {
     }
 
     fn verdict(&self) -> Verdict {
-        let wrong = self.differs("library", Self::by_library);
+        let wrong = self.unlike_the_library(ffi::open);
         Verdict::by_rule(wrong.or_else(|| self.differs("rule", Self::by_rule)))
     }
 }
@@ -124,11 +124,11 @@ impl Stored {
     }
 
     /// The same for the library, and whether it kept to its buffers.
-    fn by_library(&mut self) -> bool {
+    fn by_library(&mut self, open: Open) -> bool {
         let mut lent = lend(&self.file, self.scratch, &self.out[0]);
         let mut journal = Lent::new();
         journal.fill(0, self.journal[0].iter().copied());
-        self.answer = ffi::open(
+        self.answer = open(
             lent.file.slice(),
             lent.scratch.slice_mut(),
             lent.out.slice_mut(),
@@ -139,7 +139,11 @@ impl Stored {
         kept(&lent, &self.file, self.answer) && journal.intact()
     }
 
-    fn differs(&self, by: &str, run: fn(&mut Self) -> bool) -> Option<String> {
+    fn unlike_the_library(&self, open: Open) -> Option<String> {
+        self.differs("library", |told| told.by_library(open))
+    }
+
+    fn differs(&self, by: &str, run: impl Fn(&mut Self) -> bool) -> Option<String> {
         let mut told = self.clone();
         let kept = run(&mut told);
         let same = kept && told.out == self.out && told.journal == self.journal;
@@ -151,6 +155,7 @@ impl Stored {
 mod tests {
     use super::super::blocks::testing::{changes_are_seen, read_back};
     use super::*;
+    use crate::open::plain::{Twice, OPENS};
     use crate::search::tally;
 
     /// Every answer is well represented, by small files of every grid size.
@@ -160,7 +165,7 @@ mod tests {
         let stored = Stored::cases().into_iter().map(Stored::of);
         let answers = tally(stored.map(|stored| stored.answer.min(64)));
         assert!(
-            answers.keys().eq(&[1, 2, 3, 4, 5, 6, 7, 8, 9, 13, 64]),
+            answers.keys().eq(&[1, 2, 3, 4, 5, 6, 7, 8, 9, 13, 21, 64]),
             "{answers:?}"
         );
         assert!(answers.values().all(|&cases| cases >= 8), "{answers:?}");
@@ -183,6 +188,16 @@ mod tests {
             assert_eq!(block[1088..2112] == block[2112..3136], refused);
             assert_eq!(block[3136..3392] == block[3392..3648], refused);
         }
+    }
+
+    /// Faults of 21 are found by the stored answers too, but for the one that needs a greater grid.
+    #[test]
+    fn faults_are_found() {
+        let stored: Vec<Stored> = Stored::cases().into_iter().map(Stored::of).collect();
+        let seen = |open: Open| stored.iter().any(|s| s.unlike_the_library(open).is_some());
+        let unseen = OPENS.iter().filter(|(_, faulty, _)| !seen(*faulty));
+        let unseen: Vec<Twice> = unseen.map(|(fault, _, _)| *fault).collect();
+        assert_eq!(unseen, [Twice::ByCell16]);
     }
 
     #[test]

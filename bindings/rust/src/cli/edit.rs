@@ -1,14 +1,15 @@
-//! The commands open, put, remove, undo, redo, apply, log and build.
+//! The commands open, fold, put, remove, undo, redo, apply, log and build.
 
 use super::args::Args;
 use super::list::cell_at;
 use super::progress::Progress;
+use super::warn::counted;
 use super::{
-    output, output_apart, print, read_model, read_text, reading, say, shown, tell, write,
-    write_model, Failure,
+    and_more, one_file, output, output_apart, print, read_model, read_text, reading, say, shown,
+    tell, write, write_model, Failure, MOST,
 };
 use mascon::text::{parse_edits, Edit};
-use mascon::{Departures, Entry, Model, ModelFile, Tree};
+use mascon::{Departures, Dropped, Entry, Model, ModelFile, Point, Tree};
 use std::fmt::Write as _;
 use std::path::Path;
 
@@ -16,22 +17,75 @@ pub(crate) fn open(args: &Args) -> Result<(), Failure> {
     let path = args.path(0);
     let out = output(args, &[])?;
     let bytes = read_model(path)?;
-    let model = Model::open(&bytes).map_err(|refusal| Failure::refused(shown(path), refusal))?;
+    let model = Model::open(&bytes).map_err(|error| Failure::not_opened(path, error))?;
     write_model(out, &model)?;
-    let departures = Departures::of(&bytes, &model);
-    let change = if departures.is_empty() {
+    say(in_working_form(out, &model, &bytes));
+    Ok(())
+}
+
+/// What was written of a file.
+fn in_working_form(out: &Path, model: &Model, bytes: &[u8]) -> String {
+    let departures = Departures::of(bytes);
+    let change = if !departures.left_out().is_empty() {
+        format!("; left out: {}", departures.left_out())
+    } else if model.as_bytes() == bytes {
         ", as it was".into()
-    } else if departures.left_out().is_empty() {
+    } else if model.as_bytes().len() == bytes.len() {
         "; only the order of its records is another".into()
     } else {
-        format!("; left out: {}", departures.left_out())
+        String::new()
     };
-    say(format!(
-        "{}: {} points in working form{change}\n",
-        shown(out),
-        model.len()
-    ));
+    let (out, points) = (shown(out), model.len());
+    format!("{out}: {points} points in working form{change}\n")
+}
+
+pub(crate) fn fold(args: &Args) -> Result<(), Failure> {
+    let path = args.path(0);
+    let most = args.number("--most", MOST)?;
+    let out = output(args, &[])?;
+    let bytes = read_model(path)?;
+    let (model, dropped) =
+        Model::fold(&bytes).map_err(|refusal| Failure::refused(shown(path), refusal))?;
+    if !dropped.is_empty() && one_file(path, out) && !args.flag("--force") {
+        let (out, gone) = (shown(out), counted(dropped.len(), "record"));
+        return Err(Failure::failed(format!(
+            "{out}: {gone} would be gone for good: write elsewhere, or add --force"
+        )));
+    }
+    write_model(out, &model)?;
+    say(in_working_form(out, &model, &bytes) + &lost(&dropped, most));
     Ok(())
+}
+
+/// The records that folding dropped, so many of them listed.
+fn lost(dropped: &[Dropped], most: usize) -> String {
+    if dropped.is_empty() {
+        return "nothing dropped: every record names a cell of its own\n".into();
+    }
+    let mut text = format!(
+        "{} dropped, whose cell a later record names:\n",
+        counted(dropped.len(), "record")
+    );
+    for Dropped {
+        record,
+        point,
+        kept,
+    } in dropped.iter().take(most)
+    {
+        let Point {
+            x,
+            y,
+            z,
+            cauchy_mass,
+            elliptic_mass,
+        } = point;
+        let _ = writeln!(
+            text,
+            "record {record}, cell ({x}, {y}, {z}), {cauchy_mass} and {elliptic_mass} kg: record {kept} counts"
+        );
+    }
+    and_more(&mut text, dropped.len().saturating_sub(most));
+    text
 }
 
 fn load(path: &Path) -> Result<ModelFile, Failure> {
@@ -216,8 +270,7 @@ pub(crate) fn log(args: &Args) -> Result<(), Failure> {
 pub(crate) fn build(args: &Args) -> Result<(), Failure> {
     let path = args.path(0);
     let out = output_apart(args, &[(path, "its point file")])?;
-    let tree = Tree::build(&read_model(path)?)
-        .map_err(|refusal| Failure::refused(shown(path), refusal))?;
+    let tree = Tree::build(&read_model(path)?).map_err(|error| Failure::not_opened(path, error))?;
     write(out, tree.as_bytes())?;
     say(format!(
         "{}: {} nodes, {} ordered points, {} bytes\n",

@@ -199,7 +199,7 @@ pub(crate) fn fill(args: &Args) -> Result<(), Failure> {
     let filled = with_progress(&task);
     let time = start.elapsed().as_secs_f64();
     let model = filled
-        .and_then(|file| Model::open(&file))
+        .and_then(|file| Ok(Model::open(&file)?))
         .map_err(|refusal| foresight.refused(refusal, || task.faults()))?;
     if model.is_empty() {
         foresight.warn_empty();

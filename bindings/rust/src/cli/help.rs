@@ -5,6 +5,7 @@ mascon: models of small bodies as point masses in a grid
 
   mascon fill MESH KERNELS -o OUT   fill a mesh (OBJ) into a point file
   mascon open IN -o OUT             write a point file in working form
+  mascon fold IN -o OUT             the same of a file that names a cell twice: the later record counts
   mascon get MODEL X Y Z            what a cell holds, and where it is
   mascon list MODEL                 the points as CSV, all or those in a box
   mascon put MODEL X Y Z CAUCHY ELLIPTIC
@@ -59,9 +60,18 @@ The time grows with cells x triangles. At most 2^20 triangles and 4,096 kernels 
 const OPEN: &str = "\
 mascon open IN -o OUT [--force]
 
-Writes a point file in working form: one record for each occupied cell, ascending by cell. Where two records name
-one cell, the later counts. What was left out (records, pads, bytes after the records) is counted. OUT may be IN. With
---force, OUT may be a model that has a journal, which goes, or a journal.
+Writes a point file in working form: one record for each occupied cell, ascending by cell, pad 0. A file in which two
+records name one cell is refused (21): see fold. What was left out (pads, bytes after the records) is counted. OUT may be
+IN. With --force, OUT may be a model that has a journal, which goes, or a journal.
+";
+
+const FOLD: &str = "\
+mascon fold IN -o OUT [--most N] [--force]
+
+Writes a point file in working form, as open does, also where two or more records name one cell: the last of them counts,
+the others are dropped. Lists the dropped records, N of them (20): number from 0, cell, Cauchy and elliptic mass, and the
+record that counts. OUT may be IN where nothing is dropped. With --force it may be IN all the same, whose dropped records
+are then gone, or a model that has a journal, which goes, or a journal.
 ";
 
 const EDIT: &str = "\
@@ -78,7 +88,7 @@ X, Y, Z are cell indices from 0. Edits are entered in MODEL.journal, so that und
 are written beside and renamed; the journal names its model, and the one that it replaced, by length and hash, and a
 pair that does not belong together is refused. A run that was cut off between the two renames is finished by the next
 edit; commands that only read show the model as if it were finished, say so and change nothing. A file that is not in
-working form is not edited: run `mascon open` first.
+working form is not edited: run `mascon open` first, or `mascon fold` where it names a cell twice.
 
 apply stops at the first refusal, names its line and changes nothing. With --keep-going it passes over refused edits,
 saves the others and exits with 1 if any was refused. Each edit judges the whole model, so that long lists for large
@@ -111,8 +121,8 @@ Both corners are included and may stand in either order. Where no point is liste
 const BUILD: &str = "\
 mascon build IN -o OUT [--force]
 
-Builds the tree (RTM1, version 2) of a point file, in working form or not. With --force over another point file or a
-journal.
+Builds the tree (RTM1, version 2) of a point file, in working form or not; one that names a cell twice is refused (21), see
+fold. With --force over another point file or a journal.
 ";
 
 const INFO: &str = "\
@@ -125,8 +135,9 @@ const CHECK: &str = "\
 mascon check FILE [--most N]
 
 Lists every fault of a point file or tree: cause, record or node, field and byte, all counted from 0; N of them (20).
-Of a point file it also lists what is not in working form (cause 10), every repeated cell included, and notes bytes after
-the last record, neither of which is a fault, and where it has none it judges FILE.journal. Exit status 1 if there is a fault.
+Of a point file these are, last, the records that name a cell again (cause 21). It also lists what is not in working form
+(cause 10) and notes bytes after the last record, neither of which is a fault, and where there is no fault it judges
+FILE.journal. Exit status 1 if there is a fault.
 ";
 
 const DRAW: &str = "\
@@ -152,6 +163,7 @@ pub(crate) fn of(command: &str) -> Option<&'static str> {
     Some(match command {
         "fill" => FILL,
         "open" => OPEN,
+        "fold" => FOLD,
         "put" | "remove" | "undo" | "redo" | "apply" | "log" => EDIT,
         "get" => GET,
         "list" => LIST,

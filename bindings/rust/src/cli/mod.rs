@@ -11,7 +11,7 @@ mod show;
 mod warn;
 
 use args::{Args, Takes, QUIET};
-use mascon::{Held, Model, ModelFile, ModelFileError, Reading, Refusal};
+use mascon::{Held, Model, ModelFile, ModelFileError, OpenError, Reading, Refusal};
 use std::ffi::OsString;
 use std::fmt::Display;
 use std::io::{ErrorKind, Read, Write};
@@ -44,9 +44,21 @@ impl Failure {
         Failure::Failed(format!("{what}: {refusal}\n  {}", refusal.advice()))
     }
 
+    /// A point file that was refused; where two records name one cell, with these and the command that folds it.
+    fn not_opened(path: &Path, error: OpenError) -> Failure {
+        let OpenError { refusal, twice } = error;
+        let Some(twice) = twice else {
+            return Failure::refused(shown(path), refusal);
+        };
+        let (name, given) = (shown(path), path.display());
+        Failure::Failed(format!(
+            "{name}: {refusal}: {twice}\n  run `mascon fold {given} -o OUT`: the later record of a cell counts; `mascon check {given}` names every such record"
+        ))
+    }
+
     fn file(error: ModelFileError) -> Failure {
         match error {
-            ModelFileError::Model(path, refusal) => Failure::refused(path.display(), refusal),
+            ModelFileError::Model(path, error) => Failure::not_opened(&path, error),
             other => Failure::failed(other),
         }
     }
@@ -89,6 +101,16 @@ fn print_part(text: impl AsRef<str>) -> Result<bool, Failure> {
 fn say(text: impl AsRef<str>) {
     if !is_silent() {
         let _ = print(text);
+    }
+}
+
+/// How many faults or dropped records are listed, unless another number is asked for.
+const MOST: usize = 20;
+
+/// How many of a list are not shown.
+fn and_more(text: &mut String, more: usize) {
+    if more > 0 {
+        text.push_str(&format!("... and {more} more\n"));
     }
 }
 
@@ -174,9 +196,8 @@ fn output<'a>(args: &'a Args, inputs: &[(&Path, &str)]) -> Result<&'a Path, Fail
     if is_stdin(out) {
         return Err(Failure::usage("-o: a file is written, not standard output"));
     }
-    let found = |path: &Path| std::fs::canonicalize(path).ok();
     for (input, what) in inputs {
-        if found(out).is_some_and(|out| found(input) == Some(out)) {
+        if one_file(out, input) {
             let why = format!("-o: {} would be written over {what}", shown(out));
             return Err(Failure::usage(why));
         }
@@ -195,6 +216,12 @@ fn output<'a>(args: &'a Args, inputs: &[(&Path, &str)]) -> Result<&'a Path, Fail
         None | Some(Held::PointFile) => Ok(out),
         Some(held) => Err(would_lose(out, held)),
     }
+}
+
+/// Whether two paths lead to one file.
+fn one_file(path: &Path, other: &Path) -> bool {
+    let found = |path: &Path| std::fs::canonicalize(path).ok();
+    found(path).is_some_and(|path| found(other) == Some(path))
 }
 
 /// Where a tree or a picture is written: over no point file either.
@@ -230,25 +257,23 @@ fn write_model(out: &Path, model: &Model) -> Result<(), Failure> {
     Ok(())
 }
 
+const FILL: &[&str] = &[
+    "-o",
+    "--grid",
+    "--target",
+    "--density",
+    "--elliptic",
+    "--scale",
+    "--widen",
+];
 const AT: &[&str] = &["--at X Y Z"];
 const BOXES: &[&str] = &["--cells X0 Y0 Z0 X1 Y1 Z1", "--metres X0 Y0 Z0 X1 Y1 Z1"];
 
 fn takes(command: &str) -> Option<Takes> {
     let (words, options, flags): (&[&str], &[&str], &[&str]) = match command {
-        "fill" => (
-            &["MESH", "KERNELS"],
-            &[
-                "-o",
-                "--grid",
-                "--target",
-                "--density",
-                "--elliptic",
-                "--scale",
-                "--widen",
-            ],
-            &["--force"],
-        ),
+        "fill" => (&["MESH", "KERNELS"], FILL, &["--force"]),
         "open" => (&["IN"], &["-o"], &["--force"]),
+        "fold" => (&["IN"], &["-o", "--most"], &["--force"]),
         "put" => (&["MODEL", "X", "Y", "Z", "CAUCHY", "ELLIPTIC"], AT, &[]),
         "remove" => (&["MODEL", "X", "Y", "Z"], AT, &[]),
         "undo" | "redo" => (&["MODEL"], &["--steps"], &["--all"]),
@@ -287,6 +312,7 @@ fn command(name: &str, args: &Args) -> Result<(), Failure> {
     match name {
         "fill" => fill::fill(args),
         "open" => edit::open(args),
+        "fold" => edit::fold(args),
         "put" | "remove" => edit::edit(name, args),
         "undo" | "redo" => edit::step(name, args),
         "apply" => edit::apply(args),

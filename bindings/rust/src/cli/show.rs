@@ -2,10 +2,13 @@
 
 use super::args::Args;
 use super::list::{outside_box, outside_grid};
-use super::{output_apart, print, read_model, reading, say, shown, tell_apart, write, Failure};
+use super::{
+    and_more, output_apart, print, read_model, reading, say, shown, tell_apart, write, Failure,
+    MOST,
+};
 use mascon::check::{check_points, check_tree, check_working_form, trailing_bytes, Report};
 use mascon::draw::{difference, Mass, Picture, Slice};
-use mascon::{Header, Model, ModelFileError, Reading, Tree};
+use mascon::{Header, Model, ModelFileError, Reading, Refusal, Tree};
 use std::fmt::Write as _;
 use std::path::Path;
 
@@ -42,8 +45,8 @@ pub(crate) fn info(args: &Args) -> Result<(), Failure> {
         tree_info(&mut text, &tree);
     } else {
         tell_apart(&reading);
-        let model = Model::open(&reading.bytes)
-            .map_err(|refusal| Failure::refused(shown(path), refusal))?;
+        let model =
+            Model::open(&reading.bytes).map_err(|error| Failure::not_opened(path, error))?;
         points_info(&mut text, &model, &reading.bytes);
         match journal(reading) {
             Ok(None) => {}
@@ -195,10 +198,7 @@ fn list(text: &mut String, report: &Report) {
     for fault in &report.faults {
         let _ = writeln!(text, "{fault}");
     }
-    let more = report.total - report.faults.len();
-    if more > 0 {
-        let _ = writeln!(text, "... and {more} more");
-    }
+    and_more(text, report.total - report.faults.len());
 }
 
 /// The faults of a tree.
@@ -216,7 +216,7 @@ fn point_faults(
     most: usize,
 ) -> Result<usize, Failure> {
     let report = check_points(bytes, most.max(1));
-    let refused = Model::open(bytes).err();
+    let refused = Model::open(bytes).err().map(Refusal::from);
     let first = report.faults.first().and_then(|fault| fault.cause);
     if refused != first {
         return Err(Failure::failed(format!(
@@ -225,6 +225,13 @@ fn point_faults(
         )));
     }
     list(text, &report);
+    if refused == Some(Refusal::CellTwice) {
+        let path = path.display();
+        let _ = writeln!(
+            text,
+            "`mascon fold {path} -o OUT` keeps the last record of each of these cells"
+        );
+    }
     let form = check_working_form(bytes, most);
     if bytes.starts_with(b"RYM1") && !form.is_clean() {
         text.push_str(if report.is_clean() {
@@ -261,7 +268,7 @@ fn journal_faults(text: &mut String, reading: Reading) -> Result<usize, Failure>
 
 pub(crate) fn check(args: &Args) -> Result<(), Failure> {
     let path = args.path(0);
-    let most = args.number("--most", 20_usize)?;
+    let most = args.number("--most", MOST)?;
     let reading = reading(path)?;
     let mut text = String::new();
     let faults = if is_tree(&reading.bytes) {
@@ -289,7 +296,7 @@ pub(crate) fn model(path: &Path) -> Result<Model, Failure> {
         let why = format!("{}: this is a tree, give its point file", shown(path));
         return Err(Failure::failed(why));
     }
-    Model::open(&bytes).map_err(|refusal| Failure::refused(shown(path), refusal))
+    Model::open(&bytes).map_err(|error| Failure::not_opened(path, error))
 }
 
 fn mass(args: &Args) -> Result<Mass, Failure> {

@@ -9,7 +9,7 @@ use std::fmt::Write as _;
 /// A list's name and its kernels.
 pub(crate) type List<'a> = (&'static str, &'a [Kernel]);
 
-fn counted(count: usize, one: &str) -> String {
+pub(crate) fn counted(count: usize, one: &str) -> String {
     format!("{count} {one}{}", if count == 1 { "" } else { "s" })
 }
 

@@ -67,6 +67,8 @@ fn a_box_of_the_least_width_is_accepted_in_any_mode() {
     for mode in MODES.into_iter().chain(TRAPPING) {
         let tree = in_mode(mode, || Tree::build(&file)).unwrap();
         assert_eq!((tree.as_bytes().len(), tree.node_count()), (144, 1));
+        let (folded, dropped) = in_mode(mode, || Model::fold(&file)).unwrap();
+        assert_eq!((folded.as_bytes(), dropped.len()), (&file[..], 0));
         let mut model = in_mode(mode, || Model::open(&file)).unwrap();
         in_mode(mode, || model.put(0, 0, 0, 1.0, 1e-45)).unwrap();
         assert_eq!(in_mode(mode, || model.tree()), model.tree());
@@ -78,6 +80,36 @@ fn a_box_of_the_least_width_is_accepted_in_any_mode() {
         assert_eq!(judged.unwrap().as_bytes(), file);
         assert!(in_mode(mode, || check_points(&file, 1)).is_clean());
         assert!(in_mode(mode, || check_tree(tree.as_bytes(), 1)).is_clean());
+    }
+}
+
+/// The only cell of the least box twice, with the least masses.
+fn tiny_twice() -> Vec<u8> {
+    let mut file = tiny();
+    file[12] = 2;
+    for bits in [1_u32, 2] {
+        file.extend([[0; 4], [0; 4], bits.to_le_bytes(), bits.to_le_bytes()].concat());
+    }
+    file
+}
+
+#[test]
+fn a_cell_twice_is_refused_and_folded_in_any_mode() {
+    let file = tiny_twice();
+    for mode in MODES.into_iter().chain(TRAPPING) {
+        let refused = in_mode(mode, || Model::open(&file)).unwrap_err();
+        assert_eq!(refused, Refusal::CellTwice);
+        assert_eq!(in_mode(mode, || Tree::build(&file)), Err(refused));
+        let parsed = in_mode(mode, || parse_mascon_bytes(&file, "file"));
+        assert_eq!(parsed.unwrap_err().twice, refused.twice);
+        let (model, dropped) = in_mode(mode, || Model::fold(&file)).unwrap();
+        assert_eq!(model.as_bytes()[64..], file[80..]);
+        assert_eq!(dropped[0].point.cauchy_mass.to_bits(), 1);
+        let report = in_mode(mode, || check_points(&file, 9));
+        assert_eq!(
+            (report.total, report.faults[0].cause),
+            (1, Some(refused.refusal))
+        );
     }
 }
 
@@ -203,6 +235,21 @@ fn raw_build(file: &[u8]) -> (u64, Vec<u8>) {
     (built.answer, out)
 }
 
+fn raw_fold(file: &[u8]) -> (u64, Vec<u8>) {
+    let (mut scratch, mut out) = ([0], vec![0; 96]);
+    let answer = unsafe {
+        raw::mascon_fold(
+            file.as_ptr(),
+            file.len(),
+            scratch.as_mut_ptr(),
+            scratch.len(),
+            out.as_mut_ptr(),
+            out.len(),
+        )
+    };
+    (answer, out)
+}
+
 /// A mesh filled at grid 8, with these kernels for both lists.
 fn raw_fill(mesh: &[Triangle], kernels: *const u8, kernels_length: usize) -> Vec<u8> {
     let corners = mesh.iter().flat_map(|t| [t.a, t.b, t.c]).flatten();
@@ -236,6 +283,8 @@ fn without_the_default_mode_answers_differ() {
     let file = tiny();
     assert_eq!(raw_build(&file).0, 144);
     assert_eq!(in_mode(TINY_IS_ZERO, || raw_build(&file)).0, 5);
+    assert_eq!(raw_fold(&file).0, 64);
+    assert_eq!(in_mode(TINY_IS_ZERO, || raw_fold(&file)).0, 5);
     let model = beside_ties();
     let right = raw_build(model.as_bytes());
     assert_eq!(
@@ -282,13 +331,14 @@ fn null_with_length_0() {
                 0,
             ),
             raw::mascon_open(null(), 0, null_mut(), 0, null_mut(), 0, null_mut(), 0),
+            raw::mascon_fold(null(), 0, null_mut(), 0, null_mut(), 0),
             raw::mascon_put(null_mut(), 0, null_mut(), 0, 0, 0, 0, 0.0, 0.0),
             raw::mascon_remove(null_mut(), 0, null_mut(), 0, 0, 0, 0),
             raw::mascon_undo(null_mut(), 0, null_mut(), 0),
             raw::mascon_build(null(), 0, null_mut(), 0, null_mut(), 0).answer,
         ]
     };
-    assert_eq!(answers, [17, 17, 1, 1, 1, 1, 1]);
+    assert_eq!(answers, [17, 17, 1, 1, 1, 1, 1, 1]);
 }
 
 /// The same of some buffers, with others that are accepted.
@@ -301,6 +351,8 @@ fn null_beside_others() {
         [
             raw::mascon_open(at, length, null_mut(), 0, null_mut(), 0, null_mut(), 0),
             raw::mascon_open(at, length, words, 1, null_mut(), 0, null_mut(), 0),
+            raw::mascon_fold(at, length, null_mut(), 0, null_mut(), 0),
+            raw::mascon_fold(at, length, words, 1, null_mut(), 0),
             raw::mascon_put(at, length, null_mut(), 0, 0, 0, 0, 0.0, 0.0),
             raw::mascon_remove(at, length, null_mut(), 0, 0, 0, 0),
             raw::mascon_undo(at, length, null_mut(), 0),
@@ -308,10 +360,35 @@ fn null_beside_others() {
             raw::mascon_build(at, length, words, 1, null_mut(), 0).answer,
         ]
     };
-    assert_eq!(answers, [8, 9, 11, 11, 11, 8, 9]);
+    assert_eq!(answers, [8, 9, 8, 9, 11, 11, 11, 8, 9]);
     let (mesh, _) = shapes::contact_binary(6);
     let right = build_mascon(&mesh, &[], &[], 1e9, 1.0, 8).unwrap();
     assert_eq!(raw_fill(&mesh, null(), 0), right);
+}
+
+/// 21 after 8 and before 9 and 13; folding never answers it. The edits answer 10.
+#[test]
+fn a_cell_twice_beside_short_buffers() {
+    let mut file = tiny_twice();
+    let mut word = [0_u32];
+    let (at, length, words) = (file.as_mut_ptr(), file.len(), word.as_mut_ptr());
+    let answers = unsafe {
+        [
+            raw::mascon_open(at, length, null_mut(), 0, null_mut(), 0, null_mut(), 0),
+            raw::mascon_open(at, length, words, 1, null_mut(), 0, null_mut(), 0),
+            raw::mascon_build(at, length, null_mut(), 0, null_mut(), 0).answer,
+            raw::mascon_build(at, length, words, 1, null_mut(), 0).answer,
+            raw::mascon_fold(at, length, null_mut(), 0, null_mut(), 0),
+            raw::mascon_fold(at, length, words, 1, null_mut(), 0),
+            raw::mascon_put(at, length, null_mut(), 0, 0, 0, 0, 0.0, 0.0),
+            raw::mascon_remove(at, length, null_mut(), 0, 0, 0, 0),
+            raw::mascon_undo(at, length, null_mut(), 0),
+        ]
+    };
+    assert_eq!(answers, [8, 21, 8, 21, 8, 9, 10, 10, 10]);
+    let (length, folded) = raw_fold(&file);
+    assert_eq!((length, &folded[64..80]), (80, &file[80..]));
+    assert_eq!(folded[80..], [0; 16]);
 }
 
 /// A number that a later library may answer is told, not a reason to panic.

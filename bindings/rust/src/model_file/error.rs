@@ -1,4 +1,4 @@
-use crate::{Departures, Refusal};
+use crate::{Departures, OpenError, Refusal};
 use std::fmt;
 use std::io;
 use std::path::PathBuf;
@@ -9,7 +9,7 @@ pub enum ModelFileError {
     /// The file system refused, at this file.
     File(PathBuf, io::Error),
     /// The model, or the journal of it, is refused.
-    Model(PathBuf, Refusal),
+    Model(PathBuf, OpenError),
     /// The model is not in working form, or has bytes after its records: an edit would drop these beyond undo.
     NotWorkingForm(PathBuf, Departures),
     /// Another run has the model open.
@@ -41,7 +41,7 @@ impl fmt::Display for ModelFileError {
     fn fmt(&self, f: &mut fmt::Formatter<'_>) -> fmt::Result {
         match self {
             ModelFileError::File(path, error) => write!(f, "{}: {error}", path.display()),
-            ModelFileError::Model(path, refusal) => write!(f, "{}: {refusal}", path.display()),
+            ModelFileError::Model(path, error) => write!(f, "{}: {error}", path.display()),
             ModelFileError::NotWorkingForm(path, departures) => {
                 let (path, refusal) = (path.display(), Refusal::NotWorkingForm);
                 write!(
@@ -125,7 +125,7 @@ impl std::error::Error for ModelFileError {
     fn source(&self) -> Option<&(dyn std::error::Error + 'static)> {
         match self {
             ModelFileError::File(_, error) | ModelFileError::Unfinished(_, error) => Some(error),
-            ModelFileError::Model(_, refusal) => Some(refusal),
+            ModelFileError::Model(_, error) => Some(error),
             _ => None,
         }
     }

@@ -58,7 +58,7 @@ add-length c =
 returns : tie.Need-returns
 returns c =
     let r = root _ _ _ _ _ _ (c .before .before .before .before .before .before .before .pre) (c .before .before .before .whole .ensures) (c .before .count-nodes .ensures) (c .before .before .count-of .ensures .0) in
-    way-9 _ _ (c .before .before .before .before .before .before .before .pre .accepted) _ _ (r .nodes) (r .ordered) (c .if1 .taken)
+    way-9 _ _ _ _ (r .nodes) (r .ordered) (c .if1 .taken)
 
 frame-of-requires : tie.Need-frame-of-requires
 frame-of-requires c κs = accepted _ (c .before .before .before .before .before .before .before .pre .accepted) .long
@@ -74,7 +74,7 @@ build-mascon-node-requires c κs =
     let s = c .before .before .before .before .before .before .before .before .before .before .before .before .before .before in
     let r = root _ _ _ _ _ _ (c .before .before .before .before .before .before .before .before .before .before .before .before .before .before .pre) (c .before .before .before .before .before .before .before .before .before .before .whole .ensures) (c .before .before .before .before .before .before .before .before .count-nodes .ensures) (c .before .before .before .before .before .before .before .before .before .count-of .ensures .0) in (
       s .pre,
-      (root-within _ _ _ _ (s .pre) (c .before .before .before .before .before .before .before .before .before .before .whole .ensures), subst (λ (t : Tree). Space (c .before .before .before .out-words .last .0) (64 + 80 * c .before .before .before .before .before .before .before .before .count-nodes .result) 0 0 t) (sym (r .is-tree)) (root-room (s .args .file .now) (s .args .out .now) (s .pre .accepted) _ _ (r .nodes) (r .ordered) (c .before .before .before .before .before .before .before .if1 .left) (r .few) (r .short) (c .before .before .before .out-words .last .0) (c .before .before .before .out-words .kept .0))),
+      (root-within _ _ _ _ (s .pre) (c .before .before .before .before .before .before .before .before .before .before .whole .ensures), subst (λ (t : Tree). Space (c .before .before .before .out-words .last .0) (64 + 80 * c .before .before .before .before .before .before .before .before .count-nodes .result) 0 0 t) (sym (r .is-tree)) (root-room (s .args .file .now) (s .args .out .now) _ _ (r .nodes) (r .ordered) (c .before .before .before .before .before .before .before .if1 .left) (r .few) (r .short) (c .before .before .before .out-words .last .0) (c .before .before .before .out-words .kept .0))),
     )
 
 cast-t23 : tie.Need-cast-t23
@@ -93,7 +93,7 @@ returns-2 c =
     let r = root _ _ _ _ _ _ (c .before .before .before .before .before .before .before .before .before .before .before .before .before .before .before .before .before .pre) (c .before .before .before .before .before .before .before .before .before .before .before .before .before .whole .ensures) (c .before .before .before .before .before .before .before .before .before .before .before .count-nodes .ensures) (c .before .before .before .before .before .before .before .before .before .before .before .before .count-of .ensures .0) in
     let header = c .before .before .before .before .before .before .out-words in
     let wrote = c .before .before .build-mascon-node in
-    way-done (s .args .file .now) (s .args .out .now) (s .pre .accepted) _ _ (r .nodes) (r .ordered) (c .before .before .before .before .before .before .before .before .before .before .if1 .left) (header .last .0) (wrote .last .0) (wrote .result)
+    way-done (s .args .file .now) (s .args .out .now) _ _ (r .nodes) (r .ordered) (c .before .before .before .before .before .before .before .before .before .before .if1 .left) (header .last .0) (wrote .last .0) (wrote .result)
     (header .ensures ∙ ap (λ (ws : List ℕ). splice (s .args .out .now) 0 (wordsBytes ws)) (c .before .before .before .before .before .before .before .before .header-words .ensures))
     (subst (λ (t : Tree). Written (header .last .0) (64 + 80 * n) 0 0 (frameOf (s .args .file .now)) t (wrote .last .0) (wrote .result)) (r .is-tree)
     (subst (λ (q : Frame). Written (header .last .0) (64 + 80 * n) 0 0 q (treeOf (look (s .args .file .now)) (s .args .g) (c .before .before .before .before .before .before .before .before .before .before .before .before .before .whole .result)) (wrote .last .0) (wrote .result)) (c .before .before .before .before .before .before .before .before .before .frame-of .ensures) (wrote .ensures)))
