@@ -9,16 +9,12 @@ use native.Mathlib.Decide.{ℕ-discrete}
 use native.Mathlib.Omega.{arith}
 use lib.ListN.{length, getD, set, replicate, length-set, length-replicate, getD-replicate, replicate-append-replicate}
 use lib.Seq.{getD-set-same, getD-set-other}
-use borrow.Author.Tests.{lt-ltb, le-ltb}
 use Rattle.rym1.specs.declared.Point.{Point}
 use Rattle.rym1.specs.Bytes.{splice}
-use Rattle.rym1.specs.declared.Cause.the-variants.{Nothing, CellTwice}
-use Rattle.rym1.specs.Causes.{number, when}
-use Rattle.rym1.specs.File.{grid, count, size, pointAt, pointsAt, points, cell, cellOf, cube, fileCause, repeatCause}
+use Rattle.rym1.specs.File.{grid, count, size, pointAt, pointsAt, points, cell, cellOf, cube, fileCause}
 use Rattle.rym1.specs.Cells.{Slot, vacant, held, named, later, lookFrom, look, massesIn, massMap, atCell, recordsFrom, records}
 use Rattle.rym1.specs.Open.{occupied, occupiedOf}
 use Rattle.rym1.proofs.Bytes.{length-splice, splice-snoc, splice-inside}
-use Rattle.rym1.proofs.Repeated.{repeat-counted}
 use Rattle.rym1.proofs.Accepted.{Inside, accepted, accepted-points, inside-at}
 use Rattle.rym1.proofs.Cells.{named-same, named-other}
 use Rattle.lookup.specs.Lookup.{slotWord, Looked, one, marked}
@@ -142,16 +138,6 @@ marked-occupied words f d lo (suc k) h =
 pub occupied-is : (words f : List ℕ) (n k : ℕ) → Looked words f → n ≡ cube (grid f) → k ≡ marked words 0 n → k ≡ occupied f
 unfolding occupied occupiedOf records
 occupied-is words f n k d en ek = rw en at ek ∙ marked-occupied words f d 0 (cube (grid f)) (omega arith)
-
--- k words are not 0, n records are counted: 21, or none
-module _ (words f : List ℕ) (ok : fileCause f ≡ 0) (looked : Looked words f) (m k n : ℕ) (em : m ≡ cube (grid f)) (ek : k ≡ marked words 0 m) (en : n ≡ count f) where
-  pub twice-found : k < n → number CellTwice ≡ repeatCause f
-  unfolding when number
-  twice-found h = sym (repeat-counted f ok ∙ rw (lt-ltb (occupied f) (count f) (omega (arith, occupied-is words f m k looked em ek, en, h))))
-
-  pub none-twice : n ≤ k → number Nothing ≡ repeatCause f
-  unfolding when number
-  none-twice h = sym (repeat-counted f ok ∙ rw (le-ltb (occupied f) (count f) (omega (arith, occupied-is words f m k looked em ek, en, h))))
 
 -- ---- zeros
 

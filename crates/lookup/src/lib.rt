@@ -1,11 +1,15 @@
-// The lookup of a point file in lent words: a cell's word is one more than the index of the last record that names the cell, or 0.
+// The lookup of a point file in lent words, and the causes up to 8 that it asks for: a cell's word is one more than the index of the last record that names the cell, or 0.
 ghost use mathlib.Core.Path.{_≡_};
 ghost use Prim.Native.Nat.{ℕ, _+_, _*_, _≤_, _<_};
 ghost use lib.ListN.{length, getD, replicate};
+ghost use lib.Dec.{ltb};
 ghost use Rattle.rym1.specs.Bytes.{splice};
-ghost use Rattle.rym1.specs.Causes.{number};
-ghost use Rattle.rym1.specs.File.{grid, count, cube, fileCause, repeatCause};
+ghost use Rattle.rym1.specs.Causes.{number, when, first};
+ghost use Rattle.rym1.specs.File.{grid, count, cube, fileCause};
+ghost use Rattle.rym1.specs.Open.{occupied};
 ghost use Rattle.lookup.specs.Lookup.{Looked, marked};
+use points::judge::is_refused;
+use points::judge::parse_mascon_bytes;
 use points::records::cell_number;
 use points::records::count;
 use points::records::grid;
@@ -51,7 +55,7 @@ pub fn cells(g: u32) -> usize
 }
 
 // The whole lookup of a file that is not refused.
-pub fn fill_lookup(words: &mut [u32], file: &[u8])
+fn fill_lookup(words: &mut [u32], file: &[u8])
     requires { ⌜ fileCause (now file) ≡ 0 ⌝ }
     requires { ⌜ cube (grid (now file)) ≤ length (now words) ⌝ }
     ensures { λ _. ⌜ Looked (now (words .exit)) (now (file .entry)) × (length (now (words .exit)) ≡ length (now (words .entry))) ⌝ }
@@ -62,7 +66,7 @@ pub fn fill_lookup(words: &mut [u32], file: &[u8])
 }
 
 // How many of the first n words are not 0.
-pub fn count_marked(words: &[u32], n: usize) -> usize
+fn count_marked(words: &[u32], n: usize) -> usize
     requires { ⌜ n ≤ length (now words) ⌝ }
     ensures { λ r. ⌜ (r ≡ marked (now (words .entry)) 0 n) × (r ≤ n) ⌝ }
 {
@@ -77,15 +81,26 @@ pub fn count_marked(words: &[u32], n: usize) -> usize
     found
 }
 
-// The whole lookup, and 21 where two records name one cell: fewer cells are occupied then. It stands in the words either way.
-pub fn fill_distinct(words: &mut [u32], file: &[u8]) -> Cause
+// The whole lookup; how many cells are occupied.
+pub fn fill_counted(words: &mut [u32], file: &[u8]) -> u32
     requires { ⌜ fileCause (now file) ≡ 0 ⌝ }
     requires { ⌜ cube (grid (now file)) ≤ length (now words) ⌝ }
-    ensures { λ r. ⌜ (number r ≡ repeatCause (now (file .entry))) × Looked (now (words .exit)) (now (file .entry)) × (length (now (words .exit)) ≡ length (now (words .entry))) ⌝ }
+    ensures { λ r. ⌜ (r ≡ occupied (now (file .entry))) × Looked (now (words .exit)) (now (file .entry)) × (length (now (words .exit)) ≡ length (now (words .entry))) ⌝ }
 {
     fill_lookup(words, file);
-    if count_marked(words, cells(grid(file))) < count(file) as usize {
-        return Cause::CellTwice;
+    count_marked(words, cells(grid(file))) as u32
+}
+
+// 1 to 7 of a file; 8, fewer words than it has cells.
+pub fn read_cause(file: &[u8], words: usize) -> Cause
+    ensures { λ r. ⌜ number r ≡ first (fileCause (now (file .entry))) (when (ltb words (cube (grid (now (file .entry))))) 8) ⌝ }
+{
+    let cause = parse_mascon_bytes(file);
+    if is_refused(cause) {
+        return cause;
+    }
+    if words < cells(grid(file)) {
+        return Cause::ScratchShort;
     }
     Cause::Nothing
 }

@@ -176,15 +176,6 @@ module _ (g : ℕ) where
 
 -- ---- files
 
--- 21, where it is given, is past 8
-pub repeat-past : (f : List ℕ) → 0 < repeatCause f → 8 < repeatCause f
-unfolding repeatCause
-repeat-past f h = go (repeated (grid f) (points f)) h
-  where
-    go : (t : Bool) → 0 < when t 21 → 8 < when t 21
-    go true h = unfold when in omega arith
-    go false h = absurd (unfold when in omega arith)
-
 points-cut : (f : List ℕ) (at k n : ℕ) → pointsAt f at (k + suc n) ≡ pointsAt f at k ++ (pointAt f (at + 16 * k) ∷ pointsAt f (at + 16 * k + 16) n)
 unfolding pointsAt
 points-cut f at zero n = ap (pointsAt f at) (zero-add (suc n)) ∙ ap (λ (b : ℕ). pointAt f b ∷ pointsAt f (b + 16) n) (omega arith)
@@ -238,6 +229,14 @@ repeat-counted f ok = go (repeated (grid f) (points f)) refl
     go : (t : Bool) → repeated (grid f) (points f) ≡ t → when t 21 ≡ when (ltb k (count f)) 21
     go true q = ap (λ (b : Bool). when b 21) (sym (lt-ltb k (count f) (omega (arith, n-is, count-fewer (grid f) 0 (points f) (accepted-points f ok) q))))
     go false q = ap (λ (b : Bool). when b 21) (sym (le-ltb k (count f) (omega (arith, n-is, distinct-count (grid f) 0 (points f) (accepted-points f ok) q))))
+
+pub fewer-twice : (f : List ℕ) → fileCause f ≡ 0 → occupied f < count f → repeatCause f ≡ 21
+unfolding when
+fewer-twice f ok h = repeat-counted f ok ∙ rw (lt-ltb (occupied f) (count f) h)
+
+pub as-many-once : (f : List ℕ) → fileCause f ≡ 0 → count f ≤ occupied f → repeatCause f ≡ 0
+unfolding when
+as-many-once f ok h = repeat-counted f ok ∙ rw (le-ltb (occupied f) (count f) h)
 
 -- ---- what fold wrote
 

@@ -1,51 +1,64 @@
 -- What reading a tree's source answers, way by way. Assumes nothing.
 use Prim.Native.Nat.{ℕ, _≤_, _<_}
-use mathlib.Core.Path.{_≡_, refl, sym, _∙_}
+use mathlib.Core.Path.{_≡_, refl, sym, ap, _∙_}
 use mathlib.Core.Bool.{Bool, true, not}
 use mathlib.Core.List.{List}
 use native.Mathlib.Omega.{arith}
 use lib.ListN.{length}
 use lib.Dec.{eqb, ltb}
-use borrow.Author.Tests.{lt-ltb, le-ltb}
+use borrow.Author.Tests.{le-ltb}
 use Rattle.rym1.specs.declared.Cause.{Cause}
-use Rattle.rym1.specs.declared.Cause.the-variants.{ScratchShort}
+use Rattle.rym1.specs.declared.Cause.the-variants.{Nothing, CellTwice}
 use Rattle.rym1.specs.Causes.{number, when, first}
-use Rattle.rym1.specs.File.{grid, cube, fileCause, repeatCause}
-use Rattle.rym1.proofs.Causes.{first-found, first-zero-l, first-zero-r}
-use Rattle.rym1.proofs.Repeated.{repeat-past}
+use Rattle.rym1.specs.File.{grid, count, cube, fileCause, repeatCause}
+use Rattle.rym1.specs.Open.{occupied}
+use Rattle.rym1.proofs.Causes.{first-found, first-assoc, first-zero-l, first-zero-r}
+use Rattle.rym1.proofs.Repeated.{fewer-twice, as-many-once}
 use Rattle.points.proofs.Refused.{refused}
 use Rattle.lookup.specs.Lookup.{Looked}
 use Rattle.rtm1.specs.Build.{sourceCause}
 use Rattle.source.specs.Source.{Sourced}
 
 module _ (f s : List ℕ) where
-  -- 1 to 7
-  pub way-file : (cause : Cause) {r : Bool} → number cause ≡ fileCause f → r ≡ not (eqb (number cause) 0) → r ≡ true → Sourced f s cause s
+  -- 1 to 8
+  pub way-early : (cause : Cause) {r : Bool} → number cause ≡ first (fileCause f) (when (ltb (length s) (cube (grid f))) 8) → r ≡ not (eqb (number cause) 0) → r ≡ true → Sourced f s cause s
   unfolding sourceCause
-  way-file cause e t h =
+  way-early cause e t h =
       let found : 0 < number cause = refused (number cause) t h in
       record {
-        cause = e ∙ sym (first-found (fileCause f) (first (when (ltb (length s) (cube (grid f))) 8) (repeatCause f)) (rw e at found));
+        cause =
+            sym (first-found (number cause) (repeatCause f) found)
+            ∙ ap (λ (k : ℕ). first k (repeatCause f)) e
+            ∙ first-assoc (fileCause f) (when (ltb (length s) (cube (grid f))) 8) (repeatCause f);
         looked = λ none. absurd (omega (arith, found, none));
         long = refl;
         kept = λ _ _. refl;
       }
 
-  module _ (ok : fileCause f ≡ 0) (n : ℕ) (en : n ≡ cube (grid f)) where
-    pub way-8 : length s < n → Sourced f s ScratchShort s
-    unfolding sourceCause first when number
-    way-8 h =
-        record { cause = rw (ok, lt-ltb (length s) (cube (grid f)) (omega (arith, en))); looked = λ none. absurd (omega (arith, none)); long = refl; kept = λ _ _. refl }
-
-    -- 21, or nothing
-    pub way-looked : n ≤ length s → (s′ : List ℕ) (cause : Cause) → number cause ≡ repeatCause f → Looked s′ f → length s′ ≡ length s → Sourced f s cause s′
+  -- 21, or nothing: k cells are occupied, there are n records
+  module _ (read : (fileCause f ≡ 0) × (cube (grid f) ≤ length s)) (s₁ : List ℕ) (looked : Looked s₁ f) (long : length s₁ ≡ length s) (k n : ℕ) (ek : k ≡ occupied f) (en : n ≡ count f) where
+    passed : (cause : Cause) → number cause ≡ repeatCause f → number cause ≡ sourceCause f (length s)
     unfolding sourceCause first when
-    way-looked h s′ cause e looked long =
+    passed cause e = rw (read .0, le-ltb (length s) (cube (grid f)) (read .1)) e
+
+    pub way-21 : k < n → Sourced f s CellTwice s₁
+    unfolding number
+    way-21 h =
         record {
-          cause = rw (ok, le-ltb (length s) (cube (grid f)) (omega (arith, en))) e;
+          cause = passed CellTwice (sym (fewer-twice f (read .0) (omega (arith, ek, en, h))));
+          looked = λ none. looked;
+          long = long;
+          kept = λ _ low. absurd (omega (arith, low));
+        }
+
+    pub way-none : n ≤ k → Sourced f s Nothing s₁
+    unfolding number
+    way-none h =
+        record {
+          cause = passed Nothing (sym (as-many-once f (read .0) (omega (arith, ek, en, h))));
           looked = λ _. looked;
           long = long;
-          kept = λ some low. absurd (omega (arith, e, low, repeat-past f (rw e at some)));
+          kept = λ some _. absurd (omega (arith, some));
         }
 
 -- what a source that is not refused is known to be

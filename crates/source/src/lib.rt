@@ -1,22 +1,21 @@
 // A point file as the source of a tree: judged as build judges it, with its lookup.
 ghost use Rattle.source.specs.Source.{Sourced};
-use lookup::cells;
-use lookup::fill_distinct;
+use lookup::fill_counted;
+use lookup::read_cause;
 use points::judge::is_refused;
-use points::judge::parse_mascon_bytes;
-use points::records::grid;
+use points::records::count;
 use rym1::Cause;
 
-// Why no tree is made of the file, or nothing; the lookup then stands in the words.
+// Why no tree is made of the file, or nothing; the lookup then stands in the words. Two records name one cell where fewer cells are occupied.
 pub fn read_source(words: &mut [u32], file: &[u8]) -> Cause
     ensures { λ r. ⌜ Sourced (now (file .entry)) (now (words .entry)) r (now (words .exit)) ⌝ }
 {
-    let cause = parse_mascon_bytes(file);
+    let cause = read_cause(file, words.len());
     if is_refused(cause) {
         return cause;
     }
-    if words.len() < cells(grid(file)) {
-        return Cause::ScratchShort;
+    if fill_counted(words, file) < count(file) {
+        return Cause::CellTwice;
     }
-    fill_distinct(words, file)
+    Cause::Nothing
 }
