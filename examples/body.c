@@ -16,6 +16,7 @@ static const char *words(uint64_t cause) {
     case MASCON_OUT_OF_BOUNDS: return "a list or a number outside its bounds";
     case MASCON_TOO_MANY_POINTS: return "the body fills more than half of its box";
     case MASCON_NO_ROOM: return "no room for a new record";
+    case MASCON_FLOAT_TOO_LARGE: return "masses add up to more than a float holds, or cancel";
     default: return "see enum MasconCause";
     }
 }

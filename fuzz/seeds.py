@@ -1,5 +1,6 @@
 #!/usr/bin/env python3
-"""Turns the stored answers (crates/vectors/data/*.bin) into inputs of the targets, in the layout of src/decode.h: seeds.py DATA OUT."""
+"""Turns the stored answers (crates/vectors/data/*.bin) into inputs of the targets, in the layout of src/decode.h: seeds.py DATA OUT.
+OUT/edges has inputs written here: what is just too large for a float, and what just is not."""
 import hashlib
 import pathlib
 import struct
@@ -27,11 +28,15 @@ def number(part):
     return b"\xa0" + part
 
 
-def save(target, seed):
-    folder = out / target
+def save(target, seed, root=out):
+    folder = root / target
     folder.mkdir(parents=True, exist_ok=True)
     (folder / hashlib.sha1(seed).hexdigest()).write_bytes(seed)
     counts[target] = counts.get(target, 0) + 1
+
+
+def edge(target, seed):
+    save(target, seed, out / "edges")
 
 
 def blocks(name, size):
@@ -82,5 +87,71 @@ for place, block in enumerate(blocks("fill", 8192)):
         seed += b"\x80" + struct.pack("<H", length) + block[at : at + length]
     seed += number(block[32:40]) + number(block[40:48]) + exact(floats) + exact(room)
     save("fill", seed)
+
+MAX = 2.0**128 - 2.0**104
+LARGE = 2.0**128 - 2.0**103  # too large from here up
+AT_LARGE = [MAX, 2.0**103]  # masses that make it
+BELOW_LARGE = [MAX, 2.0**103 - 2.0**79, 15 * 2.0**75]  # the binary64 just below it
+
+bits = [struct.pack("<d", sign * x) for x in (MAX, LARGE, LARGE - 2.0**75, 2.0**128, float("inf")) for sign in (1, -1)]
+bits += [struct.pack("<Q", nan) for nan in (0x7FF8 << 48, 0xFFF8 << 48, 0x7FF << 52 | 1)]
+edge("narrow", b"".join(bits))
+
+
+def row(masses, start=0):
+    """Records along x from one cell on: a number is the Cauchy mass, a pair both."""
+    pairs = [mass if isinstance(mass, tuple) else (mass, 0.0) for mass in masses]
+    return [((start + x, 0, 0), pair) for x, pair in enumerate(pairs)]
+
+
+def point_file(records, g, low=0.0, high=1.0):
+    file = struct.pack("<4I", 0x314D5952, 1, g, len(records)) + struct.pack("<12f", 1, 1, 1, 0, low, low, low, high, high, high, 0, 0)
+    return file + b"".join(struct.pack("<4H2f", *cell, 0, *masses) for cell, masses in records)
+
+
+def build_edge(records, g=4, room=0, scratch=0, **box):
+    """With the tree's own length lent, and the scratch that it needs; 1: one less of it; 3: none."""
+    edge("build", bytes([len(records) & 1, scratch, room]) + bytes(10) + raw(point_file(records, g, **box)))
+
+
+TWO = row([MAX, MAX])
+CHILD = row([MAX, MAX, -MAX, -MAX]) + [((x, 1, 1), (1.0, 1.0)) for x in range(4)] + [((0, 2, 2), (1.0, 1.0))]
+TWICE = TWO + row([MAX], 1)
+for room in (0, 1, 3):
+    build_edge(TWO, room=room)
+    build_edge(CHILD, room=room)
+    build_edge(TWICE, room=room)
+build_edge(TWO, scratch=1)
+build_edge([(cell, (-elliptic, cauchy)) for cell, (cauchy, elliptic) in CHILD])
+build_edge(row([-MAX, -MAX]))
+for masses in ([MAX, MAX, -MAX], [MAX, -MAX, MAX], AT_LARGE, [-mass for mass in AT_LARGE], BELOW_LARGE, [MAX]):
+    build_edge(row(masses))
+    build_edge(row([(1.0, mass) for mass in masses]))
+build_edge(row([1.0, 2.0**-24 - 1.0]), g=2, high=1e34)
+build_edge(row([-MAX, MAX, 2e-30]))
+build_edge(row([1.0, 2.0]), low=-MAX, high=MAX)
+build_edge(row([(1.0, 1.0), (1.0, -0.5)]), low=-MAX, high=MAX)
+
+for file in (TWO, TWICE):
+    edge("open", b"\x02" + bytes(18) + raw(point_file(file, 4)))
+    edge("fold", b"\x02" + bytes(12) + raw(point_file(file, 4)))
+
+
+def edit(first, cell, *masses):
+    """A call: the first byte, a cell, the masses of a put."""
+    return bytes([first]) + struct.pack("<3I", *cell) + b"".join(b"\x80" + struct.pack("<f", mass) for mass in masses)
+
+
+BUILT, UNDONE, PUT, REMOVE = 0x80, 0x40, 0x10, 0x14
+ONE = point_file(row([MAX]), 2)
+edge("put", b"\x00" + raw(ONE + bytes(32)) + b"\x00\x07" + bytes(28) + edit(PUT, (1, 1, 1), MAX, 0.0))
+over = edit(BUILT | PUT, (1, 1, 1), MAX, 0.0)
+edge("history", b"\x00\x40\x20" + raw(ONE) + over + edit(BUILT | PUT, (0, 1, 0), -MAX, 0.0) + edit(BUILT | REMOVE, (0, 1, 0)))
+edge("history", b"\x01\x40\x20" + raw(ONE) + edit(PUT, (0, 1, 0), 1.0, 1.0) + over + edit(BUILT | UNDONE | PUT, (0, 0, 0), 1.0, 1.0))
+
+CUBE = b"\x01\x00" + 3 * b"\xa4\x03\xa4\x02"  # -1e6 to 1e6
+HEAVY = b"\x01" + 4 * b"\x50" + b"\xa4\x06"  # one kernel of sigma 0 and weight 1e30
+for g in (1, 4):
+    edge("fill", b"\x02" + struct.pack("<I", g) + CUBE + HEAVY + HEAVY + b"\x50\x54\x00\x00")
 
 print(", ".join(f"{target} {count}" for target, count in counts.items()))

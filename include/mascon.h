@@ -16,9 +16,9 @@
 
 /* The version of these declarations, the Rust crate's. While the first number is 0, the second changes where a call is new, is declared otherwise
    or answers otherwise. */
-#define MASCON_VERSION "0.2.0"
+#define MASCON_VERSION "0.3.0"
 #define MASCON_VERSION_MAJOR 0
-#define MASCON_VERSION_MINOR 2
+#define MASCON_VERSION_MINOR 3
 #define MASCON_VERSION_PATCH 0
 
 #ifdef __cplusplus
@@ -47,11 +47,12 @@ enum MasconCause {
     MASCON_TOO_MANY_POINTS = 18, /* more inside points than half the cells, rounded up */
     MASCON_FLAT_BOX = 19, /* box min is not below max after narrowing to binary32 */
     MASCON_NOT_FINITE = 20, /* a float to be written is not finite */
-    MASCON_CELL_TWICE = 21 /* two records name one cell */
+    MASCON_CELL_TWICE = 21, /* two records name one cell */
+    MASCON_FLOAT_TOO_LARGE = 22 /* a float of the tree is too large */
 };
 
-/* The pattern of the binary32 nearest to x, ties to even: below 2^32. Infinity with x's sign from magnitude 2^128 - 2^103 up;
-   a NaN gives 0x7fc00000. Every x has an answer. */
+/* The pattern of the binary32 nearest to x, ties to even, a finite one: below 2^32. Or 2^32 where x is too large: from magnitude
+   2^128 - 2^103 up, an infinity, a NaN. Every x has an answer. */
 uint64_t mascon_narrow(double x);
 
 /* Whether a point lies inside a mesh: an odd number of the crossings of its ray along +X remains once near ones are thinned.
@@ -137,7 +138,10 @@ typedef struct {
 /* Builds the tree of a point file, in working form or not, into out: 64 bytes of header, 80 a node, 4 an occupied cell.
    Answers the length written, 64 + 80 * nodes + 4 * order, or a number below 64, the cause of a refusal:
    1 under 64 bytes, 2 word 0 or version, 3 grid, 4 records missing, 5 a header float, 6 a coordinate, 7 a mass,
-   8 scratch under grid^3 words, 21 two records name one cell, 9 out too short, in this order. 64 + 84 * grid^3 bytes are always enough.
+   8 scratch under grid^3 words, 21 two records name one cell, 22 a float of the tree is too large, 9 out too short, in this order.
+   64 + 84 * grid^3 bytes are always enough.
+   22 is about the fifteen floats of every node, box centre, half, both sums of masses and the three centres of mass: one of them is too
+   large as in mascon_narrow, be out long enough or not. So every float that is written is finite.
    A refusal changes no byte of out, and none of scratch where it is 1 to 8. out past the length is as it was; file is only read;
    scratch is free otherwise. The three do not overlap. */
 MasconBuilt mascon_build(const uint8_t *file, size_t file_length, uint32_t *scratch, size_t scratch_length,

@@ -11,7 +11,7 @@
 #define MOST_LIST 8192u
 #define MOST_TREE (64 + 80 * 2 * MOST_SCRATCH + 4 * MOST_SCRATCH)
 
-uint64_t calls_made[CALLS], calls_accepted[CALLS];
+uint64_t calls_made[CALLS], calls_accepted[CALLS], calls_large[CALLS];
 
 static Lent file, scratch, out, journal, triangles, kernels[2], floats;
 static uint8_t want[MOST_TREE], want_journal[4 * MOST_JOURNAL], input_file[MOST_FILE], opened[MOST_OUT];
@@ -118,6 +118,12 @@ static uint64_t fold_checked(void) {
     return answer;
 }
 
+/* Every float of a written tree is finite, those of its header too. */
+static void check_finite(uint64_t nodes) {
+    for (uint64_t at = 16; at < 64 + 80 * nodes; at += 4)
+        if (at != 56 && !finite_bits(get32(out.at + at))) fail("the float at byte %llu is not finite", (unsigned long long)at);
+}
+
 /* Builds the tree of what stands in `file`, with `scratch` and `out` as lent. */
 static uint64_t build_checked(void) {
     const char *before = under_test;
@@ -127,27 +133,39 @@ static uint64_t build_checked(void) {
     MasconBuilt built = mascon_build(given(&file, file.length), file.length, given(&scratch, scratch.length), scratch.length / 4,
                                      given(&out, out.length), out.length);
     count(CALL_build, built.answer >= 64);
-    check_call(built.answer, right, CAUSE(21), 4);
+    calls_large[CALL_build] += built.answer == 22;
+    check_call(built.answer, right, CAUSE(21) | CAUSE(22), 4);
     if (built.nodes != nodes || built.order != ordered)
         fail("%llu nodes and %llu order words, not %llu and %llu", (unsigned long long)built.nodes, (unsigned long long)built.order,
              (unsigned long long)nodes, (unsigned long long)ordered);
     if (built.answer >= 64) {
         if (built.answer != 64 + 80 * built.nodes + 4 * built.order) fail("the length is not that of the counts");
         if (built.nodes >= 2 * cube(get32(file.at + 8))) fail("too many nodes");
+        check_finite(built.nodes);
     }
     under_test = before;
     return built.answer;
 }
 
-/* An accepted file builds: up to g 8 with the length lent that is always enough, above with the tree's own. */
-static void builds(const uint8_t *bytes, size_t length, bool at_end) {
-    uint64_t cells = cube(get32(bytes + 8)), room = 64 + 80 * (2 * cells - 1) + 4 * cells, nodes, ordered;
-    if (cells > MOST_SCRATCH) return;
-    if (cells > 512) room = rule_build(bytes, length, cells, SIZE_MAX, want, lookup, order, &nodes, &ordered);
+/* What a tree of a file needs, also where it is too large; 144 where there is none. */
+static uint64_t tree_needs(const uint8_t *bytes, size_t length) {
+    Tree tree;
+    if (rule_judge(bytes, length) != 0 || cube(get32(bytes + 8)) > MOST_SCRATCH) return 144;
+    return rule_tree(&tree, bytes, want, lookup, order) ? tree_length(&tree) : 144;
+}
+
+/* An accepted file builds, or is refused by 22 where the rule does so: up to g 8 with the length lent that is always enough, above with the
+   tree's own. Answers what build does, 0 where it was not called. */
+static uint64_t builds(const uint8_t *bytes, size_t length, bool at_end) {
+    uint64_t cells = cube(get32(bytes + 8)), room = 64 + 80 * (2 * cells - 1) + 4 * cells;
+    if (cells > MOST_SCRATCH) return 0;
+    if (cells > 512) room = tree_needs(bytes, length);
     lend_bytes(&file, bytes, length, at_end);
     lend_junk(&scratch, 4 * cells, at_end, 3);
     lend_junk(&out, room, at_end, 4);
-    if (build_checked() < 64) fail("build refuses what is accepted");
+    uint64_t answer = build_checked();
+    if (answer < 64 && answer != 22) fail("build refuses what is accepted");
+    return answer;
 }
 
 /* Opened again, an opened or folded file gives the same bytes, with exactly its length lent. */
@@ -162,6 +180,11 @@ static void reopens(const uint8_t *bytes, size_t length, bool at_end) {
     check_bytes(&out, file.was, 0, length, "opened again");
 }
 
+static void count_narrow(uint64_t answer) {
+    count(CALL_narrow, answer < TOO_LARGE);
+    calls_large[CALL_narrow] += answer == TOO_LARGE;
+}
+
 void case_narrow(const uint8_t *bytes, size_t length) {
     ready("narrow");
     In in = {bytes, bytes + length};
@@ -170,16 +193,16 @@ void case_narrow(const uint8_t *bytes, size_t length) {
         double x;
         memcpy(&x, &bits, 8);
         uint64_t answer = mascon_narrow(x);
-        count(CALL_narrow, true);
-        if (answer >> 32) fail("0x%llx for 0x%016llx", (unsigned long long)answer, (unsigned long long)bits);
+        count_narrow(answer);
+        if (answer > TOO_LARGE || (answer < TOO_LARGE && !finite_bits((uint32_t)answer))) fail("0x%llx for 0x%016llx", (unsigned long long)answer, (unsigned long long)bits);
         check_answer(answer, rule_narrow(x));
         float near = (float)x;
         uint32_t machine;
         memcpy(&machine, &near, 4);
-        if (x == x && answer != machine) fail("0x%08llx for 0x%016llx, the machine has 0x%08x", (unsigned long long)answer, (unsigned long long)bits, machine);
+        if (answer != (finite_bits(machine) ? machine : TOO_LARGE)) fail("0x%08llx for 0x%016llx, the machine has 0x%08x", (unsigned long long)answer, (unsigned long long)bits, machine);
         uint64_t negative = mascon_narrow(-x);
-        count(CALL_narrow, true);
-        if (x == x ? negative != (answer ^ 0x80000000u) : negative != answer) fail("0x%08llx for the negative of 0x%016llx", (unsigned long long)negative, (unsigned long long)bits);
+        count_narrow(negative);
+        if (negative != (answer < TOO_LARGE ? answer ^ 0x80000000u : TOO_LARGE)) fail("0x%08llx for the negative of 0x%016llx", (unsigned long long)negative, (unsigned long long)bits);
     } while (in.at < in.end);
 }
 
@@ -301,21 +324,13 @@ void case_open(const uint8_t *bytes, size_t length) {
     if (flags & 2) builds(opened, answer, at_end);
 }
 
-/* What a tree of the input file needs; 144 where it has none. */
-static uint64_t tree_needs(size_t length) {
-    uint64_t nodes, ordered;
-    if (rule_judge(input_file, length) != 0 || cube(get32(input_file + 8)) > MOST_SCRATCH) return 144;
-    uint64_t need = rule_build(input_file, length, MOST_SCRATCH, SIZE_MAX, want, lookup, order, &nodes, &ordered);
-    return need < 64 ? 144 : need;
-}
-
-/* What the folded input file needs; 80 where it has none. */
-static uint64_t folded_needs(size_t length) {
-    return rule_judge(input_file, length) == 0 ? 64 + 16 * rule_occupied(input_file, keys) : 80;
+/* What a folded file needs; 80 where it has none. */
+static uint64_t folded_needs(const uint8_t *bytes, size_t length) {
+    return rule_judge(bytes, length) == 0 ? 64 + 16 * rule_occupied(bytes, keys) : 80;
 }
 
 /* An input file with scratch and output near what is needed, lent; answers the first byte. */
-static uint8_t lend_near(const uint8_t *bytes, size_t length, uint64_t (*needs)(size_t)) {
+static uint8_t lend_near(const uint8_t *bytes, size_t length, uint64_t (*needs)(const uint8_t *, size_t)) {
     In in = {bytes, bytes + length};
     uint8_t flags = u8(&in), lengths[12]; // lengths stand before the file, whose own takes the rest
     bool at_end = flags & 1;
@@ -325,7 +340,7 @@ static uint8_t lend_near(const uint8_t *bytes, size_t length, uint64_t (*needs)(
     uint64_t cells = rule_judge(input_file, file_length) == 0 ? cube(get32(input_file + 8)) : 64;
     lend_bytes(&file, input_file, file_length, at_end);
     lend_junk(&scratch, 4 * length_near(&of, cells, MOST_SCRATCH), at_end, 1);
-    lend_junk(&out, length_near(&of, needs(file_length), MOST_OUT), at_end, 2);
+    lend_junk(&out, length_near(&of, needs(input_file, file_length), MOST_OUT), at_end, 2);
     return flags;
 }
 
@@ -423,7 +438,7 @@ void case_undo(const uint8_t *bytes, size_t length) { ready("undo"); case_edit(b
 static size_t fold_input(size_t length, uint64_t cells, bool at_end) {
     lend_bytes(&file, input_file, length, at_end);
     lend_junk(&scratch, 4 * cells, at_end, 1);
-    lend_junk(&out, folded_needs(length), at_end, 2);
+    lend_junk(&out, folded_needs(input_file, length), at_end, 2);
     uint64_t answer = fold_checked();
     if (answer < 64) fail("fold refuses what is accepted");
     memcpy(input_file, out.at, answer);
@@ -448,17 +463,18 @@ static uint64_t open_to_edit(In *in, size_t spare, size_t words, uint8_t flags) 
     return answer;
 }
 
-/* The edited file opens to itself and builds; then it and its journal are lent again. */
-static void edited_is_good(bool at_end) {
+/* The edited file opens to itself and builds, unless its tree is too large; then it and its journal are lent again. Answers whether it is. */
+static bool edited_too_large(bool at_end) {
     static uint8_t edited[MOST_OUT], kept_journal[4 * MOST_JOURNAL];
     size_t whole = file.length, kept_length = journal.length;
     uint64_t now = rule_length(file.at);
     memcpy(edited, file.at, whole);
     memcpy(kept_journal, journal.at, kept_length);
     reopens(edited, now, at_end);
-    builds(edited, now, at_end);
+    bool large = builds(edited, now, at_end) == 22;
     lend_bytes(&file, edited, whole, at_end);
     lend_bytes(&journal, kept_journal, kept_length, at_end);
+    return large;
 }
 
 /* A call on what open and earlier calls left, with so many entries. Answers how many there are then. */
@@ -475,6 +491,16 @@ static uint32_t history_call(const Call *next, uint32_t entries) {
     return entries;
 }
 
+/* Undoes every entry; where the tree was too large, it is built again after each of the first eight, until it is not. */
+static void undo_all(uint32_t entries, bool large, bool at_end) {
+    const Edit undo = {.kind = UNDO};
+    for (int undone = 0; entries > 0; entries--, undone++) {
+        if (edit_checked(&undo, file.length, journal.length / 4) < 64) fail("undo of %u entries is refused", entries);
+        if (large && undone < 8) large = edited_too_large(at_end);
+    }
+    check_answer(edit_checked(&undo, file.length, journal.length / 4), 15);
+}
+
 /* A file opened, a list of edits on what open left, then every entry undone: the file is as open wrote it. */
 void case_history(const uint8_t *bytes, size_t length) {
     ready("history");
@@ -489,14 +515,12 @@ void case_history(const uint8_t *bytes, size_t length) {
     memcpy(as_opened, out.at, out.length);
     lend_bytes(&file, as_opened, out.length, at_end); // the whole buffer that open wrote into
     uint32_t entries = 0;
+    bool large = false; // the tree last built
     for (int calls = 0; in.at < in.end && calls < 64; calls++) {
         Call next = call(&in, file.at, file.length);
         entries = history_call(&next, entries);
-        if (next.built && calls < 8) edited_is_good(at_end);
+        if (next.built && calls < 8) large = edited_too_large(at_end);
     }
-    const Edit undo = {.kind = UNDO};
-    for (; entries > 0; entries--)
-        if (edit_checked(&undo, file.length, journal.length / 4) < 64) fail("undo of %u entries is refused", entries);
-    check_answer(edit_checked(&undo, file.length, journal.length / 4), 15);
+    undo_all(entries, large, at_end);
     check_bytes(&file, as_opened, 0, opened_length, "every entry undone");
 }

@@ -12,8 +12,8 @@
 enum { EACH_CALL(NUMBERED) CALLS };
 #undef NUMBERED
 
-// Of each exported call: how often it was made so far, and how often it was no refusal.
-extern uint64_t calls_made[CALLS], calls_accepted[CALLS];
+// Of each exported call: how often it was made so far, how often it was no refusal, and how often it said too large.
+extern uint64_t calls_made[CALLS], calls_accepted[CALLS], calls_large[CALLS];
 
 #define DECLARE(name) void case_##name(const uint8_t *bytes, size_t length);
 EACH_TARGET(DECLARE)

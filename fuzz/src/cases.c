@@ -31,7 +31,7 @@ static const Target targets[] = {
 static const char *const call_names[CALLS] = {EACH_CALL(NAME)};
 
 typedef struct {
-    uint64_t cases[TARGETS], made[CALLS], accepted[CALLS];
+    uint64_t cases[TARGETS], made[CALLS], accepted[CALLS], large[CALLS];
     size_t target, length; // the case at hand
     uint64_t number;
     uint8_t bytes[MOST];
@@ -123,6 +123,8 @@ static size_t generated(const Target *target, const Corpus *corpus, uint8_t *byt
         uint64_t exponent = below(4) ? 1023 - 156 + below(290) : below(2048), fraction = next() >> 12;
         if (below(2)) fraction = (fraction >> 29 << 29 | 1u << 28) + below(3) - 1;
         if (!below(4)) fraction &= ~0ull << below(52);
+        if (!below(16)) exponent = 2047, fraction *= below(2); // a NaN or an infinity
+        if (!below(16)) exponent = 1023 + 127, fraction = 0xffffff0000000u + below(5) - 2; // 2^128 - 2^103 and beside
         uint64_t pattern = next() >> 63 << 63 | exponent << 52 | (fraction & ((1ull << 52) - 1));
         memcpy(bytes, &pattern, 8);
         return 8;
@@ -137,8 +139,16 @@ static size_t generated(const Target *target, const Corpus *corpus, uint8_t *byt
     }
     bool near = target->make == case_fold || target->make == case_build;
     if (calm && (target->make == case_open || near)) memset(bytes + 1, 0, 12); // all lengths as needed
+    if (calm && near && !below(4)) bytes[2] = (uint8_t)below(4); // but the output's: one byte less or more, or none
     size_t at = target->make == case_open ? 19 : near ? 13 : target->make == case_history ? 3 : target->make == case_fill ? 2 : 1;
     if (calm && at < length) bytes[at] = (uint8_t)(next() & 0xe0) | 1 | (below(4) ? 0 : (uint8_t)below(32)); // fields, mostly undamaged
+    bool heavy = calm && at + 4 < length && bytes[at] >> 5 == 4 && target->make != case_fill && target->make != case_inside;
+    if (heavy) { // g 2 to 8, how they are heavy, and first a run of 2 to 32 points
+        bytes[at + 1] = (uint8_t)(1 + below(7));
+        bytes[at + 2] = (uint8_t)(1 + below(3));
+        bytes[at + 3] = (uint8_t)below(16);
+        bytes[at + 4] = (uint8_t)(below(31) << 3 | 5);
+    }
     return length;
 }
 
@@ -162,6 +172,7 @@ static void work(Report *report, const Corpus *corpora, uint64_t whole, unsigned
             report->cases[t]++;
             memcpy(report->made, calls_made, sizeof calls_made);
             memcpy(report->accepted, calls_accepted, sizeof calls_accepted);
+            memcpy(report->large, calls_large, sizeof calls_large);
         }
     }
 }
@@ -203,12 +214,15 @@ static uint64_t print_counts(const Report *reports, const unsigned *failures, un
         cases += of;
     }
     for (size_t c = 0; c < CALLS; c++) {
-        uint64_t made = 0, accepted = 0;
+        uint64_t made = 0, accepted = 0, large = 0;
         for (unsigned p = 0; p < PROCESSES; p++) {
             made += reports[p].made[c];
             accepted += reports[p].accepted[c];
+            large += reports[p].large[c];
         }
-        printf("mascon_%s: %s calls, %s of them accepted\n", call_names[c], grouped(made), grouped(accepted));
+        printf("mascon_%s: %s calls, %s of them accepted", call_names[c], grouped(made), grouped(accepted));
+        if (large) printf(", %s too large", grouped(large));
+        printf("\n");
         calls += made;
     }
     printf("total: %s cases, %s calls, %u failures\n", grouped(cases), grouped(calls), failed);

@@ -1,5 +1,6 @@
 // A library that misbehaves: the calls are wrapped by the linker (--wrap) and one fault, FAULT, is planted in what they do.
 #include "../../include/mascon.h"
+#include <math.h>
 #include <string.h>
 
 static uint32_t word(const uint8_t *at) { uint32_t v; memcpy(&v, at, 4); return v; }
@@ -13,11 +14,36 @@ static int neighbours(const uint8_t *file) {
     return 0;
 }
 
+static double plain(double x) { return x; }
+static double negated(double x) { return -x; }
+
+// What a file's masses of one kind, the Cauchy ones at 8 or the elliptic ones at 12, add up to once each is changed so.
+static double total(const uint8_t *file, int at, double (*changed)(double)) {
+    double sum = 0;
+    for (const uint8_t *record = file + 64; record < file + 64 + 16ull * word(file + 12); record += 16) {
+        float mass;
+        memcpy(&mass, record + at, 4);
+        sum += changed(mass);
+    }
+    return sum;
+}
+
+static double greater(const uint8_t *file, double (*changed)(double)) { return fmax(total(file, 8, changed), total(file, 12, changed)); }
+static double root_sum(const uint8_t *file) { return fmax(greater(file, plain), greater(file, negated)); } // the greater magnitude
+static int large(double x) { return fabs(x) >= 0x1.ffffffp127; }
+static int root_large(const uint8_t *file) { return large(root_sum(file)); }
+
 uint64_t __real_mascon_narrow(double x);
 uint64_t __wrap_mascon_narrow(double x) {
     uint64_t answer = __real_mascon_narrow(x), bits;
     memcpy(&bits, &x, 8);
     if (fault(1) && (bits & 0x1fffffff) == 0x10000000) answer ^= 1; // ties
+    int too_large = answer == 1ull << 32;
+    if (fault(48) && too_large && !isnan(x)) answer = bits >> 63 << 31 | 0x7f800000;
+    if (fault(49) && isnan(x)) answer = 0x7fc00000;
+    if (fault(50) && too_large && fabs(x) < 0x1p128) answer = bits >> 63 << 31 | 0x7f7fffff; // from 2^128 alone
+    if (fault(51) && too_large) answer |= bits >> 63 << 31;
+    if (fault(52) && (answer & 0x7fffffff) == 0x7f7fffff) answer = 1ull << 32; // the greatest float
     return answer;
 }
 
@@ -29,6 +55,23 @@ uint64_t __wrap_mascon_inside(const uint8_t *triangles, size_t triangles_length,
     if (fault(4) && answer <= 1) floats[floats_length] = 0; // past the end
     if (fault(25) && answer <= 1) floats[-1] = 0;
     return answer;
+}
+
+// Whether a single kernel, the same everywhere, gives a cell of the mesh's box a mass that is too large.
+static int heavy_cells(uint32_t g, const uint8_t *triangles, size_t triangles_length, const uint8_t *kernels, size_t kernels_length) {
+    double volume = 1, kernel[5], corner[3];
+    if (kernels_length != 40) return 0;
+    memcpy(kernel, kernels, 40);
+    for (int axis = 0; axis < 3; axis++) {
+        double low = INFINITY, high = -INFINITY;
+        for (size_t at = 0; at < triangles_length; at += 24) {
+            memcpy(corner, triangles + at, 24);
+            low = fmin(low, corner[axis]);
+            high = fmax(high, corner[axis]);
+        }
+        volume *= (high - low) / g;
+    }
+    return kernel[3] == 0 && large(kernel[4] * volume);
 }
 
 uint64_t __real_mascon_fill(uint32_t g, const uint8_t *triangles, size_t triangles_length, const uint8_t *cauchy_kernels, size_t cauchy_kernels_length,
@@ -45,6 +88,7 @@ uint64_t __wrap_mascon_fill(uint32_t g, const uint8_t *triangles, size_t triangl
     if (fault(27) && answer == 19) memset(out, 0, out_length);
     if (fault(28) && answer >= 64 && elliptic_kernels_length) ((uint8_t *)elliptic_kernels)[elliptic_kernels_length - 1] ^= 1;
     if (fault(29) && answer == 19) answer = 18;
+    if (fault(53) && answer == 18 && heavy_cells(g, triangles, triangles_length, cauchy_kernels, cauchy_kernels_length)) answer = 20;
     return answer;
 }
 
@@ -63,6 +107,7 @@ uint64_t __wrap_mascon_open(const uint8_t *file, size_t file_length, uint32_t *s
     if (fault(31) && answer == 9 && journal_length == 0) answer = 13;
     if (fault(35) && answer == 21 && journal_length == 0) answer = 13;
     if (fault(36) && answer == 21 && !neighbours(file)) answer = mascon_fold(file, file_length, scratch, scratch_length, out, out_length);
+    if (fault(54) && answer >= 64 && root_large(file)) answer = 22;
     (void)seen;
     return answer;
 }
@@ -89,6 +134,7 @@ uint64_t __wrap_mascon_put(uint8_t *file, size_t file_length, uint32_t *journal,
     if (fault(14) && answer == 14) journal[0] = 0;
     if (fault(45) && answer == 10 && neighbours(file)) answer = 21;
     if (fault(32) && answer == 13 && file_length < 80 + 16ull * word(file + 12)) answer = 14;
+    if (fault(55) && answer >= 64 && root_large(file)) answer = 22;
     if (fault(23) && answer >= 64 && x == 5 && y == 1 && z == 4 && cauchy == 3.0f) file[24] ^= 1; // one cell and mass
     return answer;
 }
@@ -101,6 +147,9 @@ uint64_t __wrap_mascon_remove(uint8_t *file, size_t file_length, uint32_t *journ
     return answer;
 }
 
+// Whether build refused by 22, 1, and something was undone since, 2.
+static int refused_by_22;
+
 uint64_t __real_mascon_undo(uint8_t *file, size_t file_length, uint32_t *journal, size_t journal_length);
 uint64_t __wrap_mascon_undo(uint8_t *file, size_t file_length, uint32_t *journal, size_t journal_length) {
     uint64_t answer = __real_mascon_undo(file, file_length, journal, journal_length);
@@ -109,6 +158,7 @@ uint64_t __wrap_mascon_undo(uint8_t *file, size_t file_length, uint32_t *journal
         answer -= 16;
     }
     if (fault(33) && answer == 16 && file_length < 80 + 16ull * word(file + 12)) answer = 14;
+    if (answer >= 64 && refused_by_22) refused_by_22 = 2;
     if (fault(18) && answer >= 64 && journal[0] >= 3) file[answer - 1] ^= 1; // only with three entries left
     return answer;
 }
@@ -116,6 +166,7 @@ uint64_t __wrap_mascon_undo(uint8_t *file, size_t file_length, uint32_t *journal
 MasconBuilt __real_mascon_build(const uint8_t *file, size_t file_length, uint32_t *scratch, size_t scratch_length, uint8_t *out, size_t out_length);
 MasconBuilt __wrap_mascon_build(const uint8_t *file, size_t file_length, uint32_t *scratch, size_t scratch_length, uint8_t *out, size_t out_length) {
     MasconBuilt built = __real_mascon_build(file, file_length, scratch, scratch_length, out, out_length);
+    MasconBuilt other = {out_length < 144 ? 9 : 144, 1, 0}; // for 22
     if (fault(19) && built.answer >= 64 && built.nodes > 1) built.nodes--;
     if (fault(20) && built.answer >= 64 && built.order > 8) { // two order words exchanged
         uint32_t last = word(out + built.answer - 4), before = word(out + built.answer - 8);
@@ -126,6 +177,20 @@ MasconBuilt __wrap_mascon_build(const uint8_t *file, size_t file_length, uint32_
     if (fault(46) && built.answer == 21 && out_length < 144) built.answer = 9;
     if (fault(47) && built.answer == 21 && out_length) out[0] ^= 1;
     if (fault(34) && built.answer == 9) built.nodes = built.order = 1;
+    if (fault(56) && built.answer == 22 && out_length < 144) built.answer = 9;
+    if (fault(57) && built.answer == 22 && out_length) out[out_length - 1] ^= 1;
+    if (fault(58) && built.answer == 22) built.nodes = built.order = 1;
+    if (fault(59) && built.answer == 21 && root_large(file)) built.answer = 22;
+    if (fault(60) && built.answer == 8 && root_large(file)) built.answer = 22;
+    if (fault(61) && built.answer == 22 && !root_large(file) && large(greater(file, fabs))) return other; // a child's sum
+    if (fault(62) && built.answer == 22 && !large(greater(file, fabs))) return other;                     // a centre
+    if (fault(63) && built.answer == 22 && !large(total(file, 8, fabs))) return other;
+    if (fault(64) && built.answer == 22 && root_large(file) && greater(file, plain) < 0x1p127) return other;
+    if (fault(65) && built.answer == 22 && root_large(file) && root_sum(file) < 0x1p128) return other;
+    if (fault(66) && built.answer >= 64 && root_sum(file) >= 0x1.fffffep127) built.answer = 22;
+    if (fault(67) && built.answer >= 64 && large(greater(file, fabs))) built.answer = 22; // by the magnitudes
+    if (fault(68) && built.answer >= 64 && refused_by_22 == 2) built.answer = 22;
+    refused_by_22 = built.answer == 22;
     if (fault(22) && built.answer >= 64 && file_length > 64) ((uint8_t *)file)[28] ^= 1; // what is only read
     return built;
 }

@@ -24,14 +24,17 @@ static bool finite_bits(uint32_t bits) { return (bits >> 23 & 255) != 255; }
 
 static uint64_t cube(uint64_t g) { return g * g * g; }
 
-/* Narrowing, from the bits: 24 significant bits, or fewer below 2^-126, ties to even. */
-static uint32_t rule_narrow(double x) {
+#define TOO_LARGE (1ull << 32)
+
+/* Narrowing: too large from 2^128 - 2^103 up and for a NaN; else a pattern, from the bits: 24 significant bits, or fewer below 2^-126, ties
+   to even. */
+static uint64_t rule_narrow(double x) {
+    if (!(fabs(x) < 0x1.ffffffp127)) return TOO_LARGE;
     uint64_t bits;
     memcpy(&bits, &x, 8);
     uint32_t sign = (uint32_t)(bits >> 63) << 31;
     int exponent = (int)(bits >> 52 & 2047);
     uint64_t fraction = bits & ((1ull << 52) - 1);
-    if (exponent == 2047) return fraction ? 0x7fc00000u : sign | 0x7f800000u;
     if (exponent < 800) return sign;
     uint64_t whole = fraction | 1ull << 52; // times 2^(exponent - 1075)
     int to = exponent - 1023 + 127;         // exponent field in binary32
@@ -39,8 +42,7 @@ static uint32_t rule_narrow(double x) {
     if (drop > 54) return sign;
     uint64_t quotient = whole >> drop, rest = whole & ((1ull << drop) - 1), half = 1ull << (drop - 1);
     if (rest > half || (rest == half && (quotient & 1))) quotient++;
-    uint64_t pattern = to >= 1 ? ((uint64_t)(to - 1) << 23) + quotient : quotient;
-    return sign | (uint32_t)(pattern > 0x7f800000u ? 0x7f800000u : pattern);
+    return sign | (to >= 1 ? ((uint64_t)(to - 1) << 23) + quotient : quotient);
 }
 
 /* Causes 1 to 7 of a point file, 0 for none. */
@@ -233,10 +235,17 @@ typedef struct {
     uint8_t *out;           // nodes from byte 64 on
     uint32_t *order;
     uint32_t g, nodes, ordered;
+    bool large; // a float of a node is too large
     double min[3], cell[3];
 } Tree;
 
-static void put_float(uint8_t *at, double x) { set32(at, rule_narrow(x)); }
+/* Writes a number narrowed; false, and nothing written, where it is too large. */
+static bool put_float(uint8_t *at, double x) {
+    uint64_t narrowed = rule_narrow(x);
+    if (narrowed == TOO_LARGE) return false;
+    set32(at, (uint32_t)narrowed);
+    return true;
+}
 
 /* Builds a box's node and what is below it; answers its point count. */
 static uint32_t rule_node(Tree *tree, const uint32_t low[3], const uint32_t high[3]) {
@@ -286,31 +295,43 @@ static uint32_t rule_node(Tree *tree, const uint32_t low[3], const uint32_t high
         floats[a] = tree->min[a] + (low[a] + high[a]) * 0.5 * tree->cell[a];
         for (int m = 0; m < 3; m++) floats[8 + 4 * m + a] = tree->min[a] + (centres[m][a] + 0.5) * tree->cell[a];
     }
-    for (int i = 0; i < 20; i++) put_float(node + 4 * i, floats[i]);
+    for (int i = 0; i < 20; i++) tree->large |= !put_float(node + 4 * i, floats[i]); // the five whole numbers never are
     return count;
 }
 
-/* Building: the answer with both counts; the tree in `want` where it is accepted. `want` and `order` have room for any tree of the grid. */
+static uint64_t tree_length(const Tree *tree) { return 64 + 80ull * tree->nodes + 4ull * tree->ordered; }
+
+/* Works out the nodes and the order of a judged file, too large or not: false where two records name one cell. `want`, `lookup` and `order`
+   have room for any tree of the grid. */
+static bool rule_tree(Tree *tree, const uint8_t *file, uint8_t *want, uint32_t *lookup, uint32_t *order) {
+    uint32_t g = get32(file + 8), n = get32(file + 12);
+    memset(lookup, 0, cube(g) * sizeof *lookup);
+    for (uint32_t i = 0; i < n; i++) {
+        uint32_t *held = &lookup[record_cell(file, i)];
+        if (*held) return false;
+        *held = i + 1;
+    }
+    *tree = (Tree){.file = file, .lookup = lookup, .out = want, .order = order, .g = g};
+    for (int a = 0; a < 3; a++) {
+        tree->min[a] = getf(file + 32 + 4 * a);
+        tree->cell[a] = ((double)getf(file + 44 + 4 * a) - tree->min[a]) / g;
+    }
+    rule_node(tree, (uint32_t[]){0, 0, 0}, (uint32_t[]){g, g, g});
+    return true;
+}
+
+/* Building: the answer with both counts; the tree in `want` where it is accepted. */
 static uint64_t rule_build(const uint8_t *file, size_t length, size_t scratch, size_t room, uint8_t *want, uint32_t *lookup,
                            uint32_t *order, uint64_t *nodes, uint64_t *ordered) {
     *nodes = *ordered = 0;
     unsigned cause = rule_judge_lent(file, length, scratch);
     if (cause) return cause;
-    uint32_t g = get32(file + 8), n = get32(file + 12);
-    memset(lookup, 0, cube(g) * sizeof *lookup);
-    for (uint32_t i = 0; i < n; i++) {
-        uint32_t *held = &lookup[record_cell(file, i)];
-        if (*held) return 21;
-        *held = i + 1;
-    }
-    Tree tree = {.file = file, .lookup = lookup, .out = want, .order = order, .g = g};
-    for (int a = 0; a < 3; a++) {
-        tree.min[a] = getf(file + 32 + 4 * a);
-        tree.cell[a] = ((double)getf(file + 44 + 4 * a) - tree.min[a]) / g;
-    }
-    rule_node(&tree, (uint32_t[]){0, 0, 0}, (uint32_t[]){g, g, g});
-    uint64_t whole = 64 + 80ull * tree.nodes + 4ull * tree.ordered;
+    Tree tree;
+    if (!rule_tree(&tree, file, want, lookup, order)) return 21;
+    if (tree.large) return 22;
+    uint64_t whole = tree_length(&tree);
     if (room < whole) return 9;
+    uint32_t g = get32(file + 8), n = get32(file + 12);
     const uint32_t words[] = {0x314d5452u, 2, g, n, get32(file + 24), get32(file + 16), get32(file + 20), 0};
     memcpy(want, words, 32);
     memcpy(want + 32, file + 32, 24);
@@ -480,6 +501,7 @@ static uint64_t rule_fill(Mesh *mesh, const Body *body, size_t floats, size_t ro
     for (int a = 0; a < 3; a++)
         if (!((float)min[a] < (float)max[a])) return 19;
     uint64_t count = 0, most = (cube(body->g) + 1) / 2;
+    bool large = false; // said after 18
     for (uint32_t z = 0; z < body->g; z++)
         for (uint32_t y = 0; y < body->g; y++)
             for (uint32_t x = 0; x < body->g; x++) {
@@ -494,7 +516,7 @@ static uint64_t rule_fill(Mesh *mesh, const Body *body, size_t floats, size_t ro
                 for (int k = 0; k < 2; k++) {
                     double mass = rule_density(body->kernels[k], body->kernels_length[k], point) * volume;
                     raw[k] += mass;
-                    put_float(record + 8 + 4 * k, mass);
+                    large |= !put_float(record + 8 + 4 * k, mass);
                 }
             }
     for (int k = 0; k < 2; k++)
@@ -502,16 +524,17 @@ static uint64_t rule_fill(Mesh *mesh, const Body *body, size_t floats, size_t ro
     const uint32_t words[] = {MARK, 1, body->g, (uint32_t)count};
     memcpy(want, words, 16);
     const double floats_at_16[] = {body->density, volume, scale[0], 0, min[0], min[1], min[2], max[0], max[1], max[2], raw[0], raw[1]};
-    for (int i = 0; i < 12; i++) put_float(want + 16 + 4 * i, floats_at_16[i]);
-    bool all_finite = true;
-    for (int i = 0; i < 12; i++) all_finite &= finite_bits(get32(want + 16 + 4 * i));
+    for (int i = 0; i < 12; i++) large |= !put_float(want + 16 + 4 * i, floats_at_16[i]);
+    uint8_t factors[8];
+    for (int k = 0; k < 2; k++) large |= !put_float(factors + 4 * k, scale[k]);
+    if (large) return 20;
     for (uint64_t i = 0; i < count; i++)
         for (int k = 0; k < 2; k++) {
             uint8_t *mass = want + 64 + 16 * i + 8 + 4 * k;
-            setf(mass, getf(mass) * (float)scale[k]);
-            all_finite &= finite_bits(get32(mass));
+            setf(mass, getf(mass) * getf(factors + 4 * k));
+            if (!finite_bits(get32(mass))) return 20;
         }
-    return all_finite ? 64 + 16 * count : 20;
+    return 64 + 16 * count;
 }
 
 #endif

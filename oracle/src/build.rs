@@ -91,21 +91,22 @@ impl Display for Built {
     }
 }
 
-/// What differs from the original in an accepted call, or where the original's tree would have fitted in a refusal by 9.
+/// What differs from the original: in a refusal by 22 the floats of its nodes are finite, in another answer one is not; by 9 its tree would
+/// have fitted; or an accepted call's counts or bytes are others.
 pub(crate) fn unlike_the_original(file: &[u8], built: Built, out: &[u8]) -> Verdict {
-    let accepted = built.answer >= 64;
-    if !accepted && built.answer != 9 {
+    if !matches!(built.answer, 9 | 22 | 64..) {
         return Verdict::default();
     }
     Verdict::by_original(original::tree(file), |(tree, counts)| {
-        if !accepted {
-            let fits = tree.len() <= out.len();
-            return fits.then(|| format!("the original's tree has {} bytes", tree.len()));
+        let finite = rule::tree::is_finite(&tree);
+        let fits = tree.len() <= out.len();
+        match built.answer {
+            22 => finite.then(|| "the original's nodes are finite".into()),
+            _ if !finite => Some("a float of the original's nodes is not finite".into()),
+            9 => fits.then(|| format!("the original's tree has {} bytes", tree.len())),
+            _ if counts != built => Some(format!("the original's is {counts}")),
+            _ => first("byte beside the original", out, &tree),
         }
-        if counts != built {
-            return Some(format!("the original's is {counts}"));
-        }
-        first("byte beside the original", out, &tree)
     })
 }
 
@@ -116,6 +117,22 @@ pub(crate) fn of_cells(g: u32, numbers: impl Iterator<Item = u64>) -> Vec<u8> {
         .map(|(number, cell)| record(rule::cell_of(u64::from(g), cell), number))
         .collect();
     point_file(Header::cube(g, g as f32), &records)
+}
+
+/// The file over a cube with a record for each of the cell numbers, with its Cauchy mass and no elliptic one.
+fn of_masses(cube: Header, masses: &[(u64, f32)]) -> Vec<u8> {
+    let record = |&(number, cauchy_mass): &(u64, f32)| Record {
+        cell: rule::cell_of(u64::from(cube.grid), number),
+        cauchy_mass,
+        elliptic_mass: 0.0,
+    };
+    point_file(cube, &masses.iter().map(record).collect::<Vec<_>>())
+}
+
+/// The greatest mass in cells 0 and 1: their sum is too large.
+pub(crate) fn two_greatest(g: u32) -> Vec<u8> {
+    let masses = [0, 1].map(|number| (number, f32::MAX));
+    of_masses(Header::cube(g, g as f32), &masses)
 }
 
 /// A case of such a file, with just enough room.
@@ -207,8 +224,112 @@ fn fixed_refusals() -> Vec<Fixed<Desk>> {
         .collect()
 }
 
+/// A small sum with a centre of mass far outside: 2^24 cells of 5e33 metres.
+fn quotient() -> Case {
+    let masses = [(0, 1.0), (1, -1f32.next_down())];
+    just(of_masses(Header::cube(2, 1e34), &masses))
+}
+
+/// Full, with the greatest masses twice in the last leaf and taken away twice in the one before.
+fn two_leaves(g: u32) -> Case {
+    let last = u64::from(g).pow(3) - 4;
+    let far = [(0, -f32::MAX), (1, -f32::MAX), (2, f32::MAX), (3, f32::MAX)];
+    let mut masses: Vec<_> = (0..last).map(|number| (number, 1.0)).collect();
+    masses.extend(far.map(|(place, mass)| (last + place, mass)));
+    just(of_masses(Header::cube(g, 1.0), &masses))
+}
+
+/// Floats that are too large, and floats that are nearly so, in g 2 where nothing else is said.
+fn fixed_large() -> Vec<Fixed<Desk>> {
+    let of = |masses: &[(u64, f32)]| just(of_masses(Header::cube(2, 2.0), masses));
+    let (max, half_unit, unit) = (f32::MAX, 2f32.powi(103), 2f32.powi(75));
+    let lent = |scratch: usize, out: usize| Case {
+        scratch,
+        out,
+        ..just(two_greatest(2))
+    };
+    let elliptic = Record {
+        cauchy_mass: 0.0,
+        elliptic_mass: f32::MIN,
+        ..record([0; 3], 0)
+    };
+    let above = Record {
+        cell: [0, 1, 1],
+        ..elliptic
+    };
+    let elliptic = just(point_file(Header::cube(2, 2.0), &[elliptic, above]));
+    let nine = [max, max, -max, -max, 0.0, 0.0, 0.0, 0.0, 0.0];
+    let nine: Vec<_> = (0..).zip(nine).collect();
+    let greatest_box = Header {
+        min: [f32::MIN; 3],
+        ..Header::cube(1, max)
+    };
+    let refused = |cause: u64| Some(Built::refused(cause));
+    vec![
+        ("two greatest", lent(8, 152), refused(22)),
+        ("two greatest, a byte short", lent(8, 151), refused(22)),
+        ("two greatest, no room", lent(8, 0), refused(22)),
+        ("two greatest, a word short", lent(7, 152), refused(8)),
+        ("two greatest, nothing lent", lent(0, 0), refused(8)),
+        (
+            "two greatest of one cell",
+            of(&[(0, max), (0, max)]),
+            refused(21),
+        ),
+        (
+            "two greatest, one of them twice",
+            of(&[(0, max), (1, max), (1, max)]),
+            refused(21),
+        ),
+        ("elliptic, below 0", elliptic, refused(22)),
+        (
+            "g 4, both children, not the root",
+            just(of_masses(Header::cube(4, 4.0), &nine)),
+            refused(22),
+        ),
+        ("g 64, two leaves", two_leaves(64), refused(22)),
+        (
+            "twice and once taken away",
+            of(&[(0, max), (1, max), (2, -max)]),
+            answer(156, 1, 3),
+        ),
+        (
+            "taken away between",
+            of(&[(0, max), (1, -max), (2, max)]),
+            answer(156, 1, 3),
+        ),
+        (
+            "2^128 − 2^103",
+            of(&[(0, max), (1, half_unit)]),
+            refused(22),
+        ),
+        (
+            "a unit less",
+            of(&[(0, max), (1, half_unit), (2, -unit)]),
+            answer(156, 1, 3),
+        ),
+        (
+            "a unit more",
+            of(&[(0, max), (1, half_unit), (2, unit)]),
+            refused(22),
+        ),
+        (
+            "a unit less than 2^128",
+            of(&[(0, 2f32.powi(127)), (1, 2f32.powi(127)), (2, -unit)]),
+            refused(22),
+        ),
+        ("a quotient", quotient(), refused(22)),
+        (
+            "g 1, the greatest box",
+            just(of_masses(greatest_box, &[(0, max)])),
+            answer(148, 1, 1),
+        ),
+    ]
+}
+
 fn fixed() -> impl Iterator<Item = Fixed<Desk>> {
-    fixed_trees().into_iter().chain(fixed_refusals())
+    let known = fixed_trees().into_iter().chain(fixed_refusals());
+    known.chain(fixed_large())
 }
 
 pub(crate) fn check(report: &mut Report) {
@@ -255,19 +376,30 @@ mod tests {
         }))
     }
 
-    /// Each kind reaches the answers that it is for, and no good file is refused.
+    /// Each kind reaches the answers that it is for, and no good file is refused but by 22: most are not.
     #[test]
     fn kinds_are_what_they_say() {
-        for name in [
-            "rows and planes",
-            "8 and 9 points",
-            "cancelling masses",
-            "extreme masses",
-            "uneven boxes",
-            "junk not read",
+        let share = |name: &str, answer: u64, least: u64| {
+            let seen = answers(name);
+            let percent = seen.get(&answer).map_or(0, |cases| 100 * cases / MORE);
+            assert!(percent >= least, "{name}: {seen:?}");
+            assert!(seen.keys().all(|seen| [22, 64].contains(seen)), "{name}");
+        };
+        for (name, least) in [
+            ("rows and planes", 97),
+            ("8 and 9 points", 97),
+            ("junk not read", 97),
+            ("uneven boxes", 80),
+            ("cancelling masses", 70),
+            ("extreme masses", 40),
+            ("nearly too large", 40),
         ] {
-            assert_eq!(answers(name), BTreeMap::from([(64, MORE)]), "{name}");
+            share(name, 64, least);
         }
+        share("cancelling masses", 22, 3);
+        share("extreme masses", 22, 20);
+        share("nearly too large", 22, 40);
+        share("too large", 22, 100);
         let all_21 = BTreeMap::from([(21, MORE)]);
         assert_eq!(answers("repeated cells"), all_21);
         let only = |name: &str, wanted: &[u64]| {
@@ -275,15 +407,17 @@ mod tests {
             assert!(seen.keys().eq(wanted), "{name}: {seen:?}");
         };
         for (name, wanted) in DAMAGE_ANSWERS {
-            // The tree of a record in another cell may be too long, seldom.
+            // The tree of a record in another cell may be too long, seldom; a mass or a box set anew may make it too large.
             let mut seen = answers(name);
-            let longer = seen.remove(&9).unwrap_or(0);
-            assert!(longer < 10 && seen.keys().eq(wanted), "{name}: {seen:?}");
+            let [longer, larger] = [9, 22].map(|cause| seen.remove(&cause).unwrap_or(0));
+            assert!(longer < 10 && larger < 200, "{name}: {longer}, {larger}");
+            assert!(seen.keys().eq(wanted), "{name}: {seen:?}");
         }
         only("21 and short buffers", &[8, 21]);
-        only("scratch lengths", &[8, 9, 21, 64]);
-        only("output lengths", &[9, 21, 64]);
-        only("several causes", &[1, 2, 3, 4, 5, 6, 7, 8, 9, 21, 64]);
+        only("22 and other causes", &[8, 21, 22]);
+        only("scratch lengths", &[8, 9, 21, 22, 64]);
+        only("output lengths", &[9, 21, 22, 64]);
+        only("several causes", &[1, 2, 3, 4, 5, 6, 7, 8, 9, 21, 22, 64]);
     }
 
     #[test]
@@ -303,30 +437,84 @@ mod tests {
         );
     }
 
-    /// Trees of the kind hold what it is for: infinities of both signs, and sums of 0 over points.
+    /// A node's twenty floats before they are narrowed.
+    type Node = [f64; 20];
+
+    /// How many of 300 cases of a kind have nodes of which this holds.
+    fn count(name: &str, wanted: impl Fn(&[Node]) -> bool) -> usize {
+        let (seed, kind) = kind(name);
+        let cases = (0..300).map(|number| kind.case(seed, number));
+        let wanted = |case: &Case| wanted(&rule::tree::floats_of_nodes(&case.file));
+        cases.filter(wanted).count()
+    }
+
+    /// The same of any one node.
+    fn count_any(name: &str, wanted: impl Fn(&Node) -> bool) -> usize {
+        count(name, |nodes| nodes.iter().any(&wanted))
+    }
+
+    fn any_large(floats: &[f64]) -> bool {
+        floats.iter().any(|&float| rule::narrowed(float).is_none())
+    }
+
+    /// Trees of the kind hold what it is for: sums too large of both signs, and sums of 0 over points.
     #[test]
     fn floats_are_met() {
-        let count = |name: &str, wanted: fn(&[f32]) -> bool| {
-            let (seed, kind) = kind(name);
-            let cases = (0..300).map(|number| kind.case(seed, number));
-            let wanted = |case: &Case| {
-                let (tree, built) = rule::tree::tree(&case.file);
-                let end = tree.len() - 4 * built.order as usize;
-                let (floats, _) = tree[64..end].as_chunks::<4>();
-                let floats: Vec<f32> = floats
-                    .iter()
-                    .map(|&bytes| f32::from_le_bytes(bytes))
-                    .collect();
-                floats.chunks(20).any(wanted)
-            };
-            cases.filter(wanted).count()
+        let (extreme, cancelling) = ("extreme masses", "cancelling masses");
+        assert!(count_any(extreme, |node| node[4] >= rule::TOO_LARGE) > 20);
+        assert!(count_any(extreme, |node| node[5] <= -rule::TOO_LARGE) > 20);
+        assert!(count_any(extreme, |node| any_large(&node[8..9])) > 0);
+        assert!(count_any(cancelling, |node| node[19] > 8.0 && node[4] == 0.0) > 50);
+        assert!(count_any(cancelling, |node| any_large(&node[8..9])) > 5);
+    }
+
+    /// What is too large: the root alone, or a node below it; a leaf, or none; either mass's sum, of either sign, or a centre of mass alone.
+    /// The box and the plain centre never are, however great the box.
+    #[test]
+    fn nodes_are_too_large_each_way() {
+        let large = |wanted: &dyn Fn(&[Node]) -> bool| count("too large", wanted);
+        let any = |nodes: &[Node], from: usize, to: usize| {
+            let mut nodes = nodes.iter();
+            nodes.any(|node| any_large(&node[from..to]))
         };
-        assert!(count("extreme masses", |node| node[4] == f32::INFINITY) > 20);
-        assert!(count("extreme masses", |node| node[5] == f32::NEG_INFINITY) > 20);
-        assert!(count("extreme masses", |node| node[8].is_infinite()) > 0);
-        assert!(count("uneven boxes", |node| node[16].is_infinite()) == 0);
-        assert!(count("cancelling masses", |node| node[19] > 8.0 && node[4] == 0.0) > 50);
-        assert!(count("cancelling masses", |node| node[8].is_infinite()) > 5);
+        let root = |nodes: &[Node]| any_large(&nodes[0]);
+        let below = |nodes: &[Node]| any(&nodes[1..], 0, 20);
+        assert!(large(&|nodes| root(nodes) && !below(nodes) && nodes.len() > 1) > 20);
+        assert!(large(&|nodes| below(nodes) && !root(nodes)) > 60);
+        let leaf = |nodes: &[Node]| nodes.iter().any(|node| any_large(node) && node[15] > 0.0);
+        assert!(large(&leaf) > 100);
+        assert!(large(&|nodes| !leaf(nodes)) > 50);
+        let sums = |nodes: &[Node]| any(nodes, 4, 6);
+        let centres = |nodes: &[Node]| any(nodes, 8, 11) || any(nodes, 12, 15);
+        assert!(large(&|nodes| sums(nodes) && !centres(nodes)) > 150);
+        assert!(large(&|nodes| centres(nodes) && !sums(nodes)) > 60);
+        for (from, to) in [(4, 5), (5, 6), (8, 11), (12, 15)] {
+            assert!(large(&|nodes| any(nodes, from, to)) > 30, "{from}");
+        }
+        assert!(count_any("too large", |node| node[4] <= -rule::TOO_LARGE) > 30);
+        assert!(count_any("too large", |node| node[5] >= rule::TOO_LARGE) > 30);
+        for name in ["too large", "nearly too large", "uneven boxes"] {
+            let of_the_box = |node: &Node| any_large(&node[..4]) || any_large(&node[16..19]);
+            assert_eq!(count_any(name, of_the_box), 0);
+        }
+    }
+
+    /// Sums at the threshold and a unit of binary64 beside it, centres of mass less than a unit of binary32 from it, greatest boxes.
+    #[test]
+    fn nodes_are_nearly_too_large() {
+        let near = |wanted: &dyn Fn(&Node) -> bool| count_any("nearly too large", wanted);
+        let threshold = rule::TOO_LARGE;
+        for sum in [threshold, threshold.next_down(), threshold.next_up()] {
+            assert!(near(&|node| node[4] == sum || node[5] == sum) > 3);
+            assert!(near(&|node| node[4] == -sum || node[5] == -sum) > 3);
+        }
+        let ends = [f64::from(f32::MAX), threshold, 2f64.powi(128)];
+        for ends in ends.windows(2) {
+            let between = |float: &f64| (ends[0]..ends[1]).contains(&float.abs());
+            let centres = |node: &Node| node[8..11].iter().chain(&node[12..15]).any(between);
+            assert!(near(&|node| centres(node) && node[4].abs() < 1e30) > 5);
+        }
+        assert!(near(&|node| node[3] as f32 == f32::MAX) > 20);
     }
 
     /// A second implementation agrees with the rule and the original.
@@ -419,6 +607,7 @@ mod tests {
     fn the_original_is_asked() {
         let file = of_cells(3, 0..9);
         let (tree, built) = rule::tree::tree(&file);
+        let tree = tree.expect("no float is too large");
         let told = |built: Built, out: &[u8]| unlike_the_original(&file, built, out).wrong;
         assert_eq!(told(built, &tree), None);
         let mut other = tree.clone();
@@ -431,9 +620,19 @@ mod tests {
         assert_eq!(told(nine, &tree[..339]), None);
         assert!(told(nine, &tree).is_some());
         assert_eq!(told(Built::refused(1), &[]), None);
+        let what = told(Built::refused(22), &[]);
+        assert_eq!(what.as_deref(), Some("the original's nodes are finite"));
+        let large = two_greatest(2);
+        let told = |built: Built, out: &[u8]| unlike_the_original(&large, built, out).wrong;
+        assert_eq!(told(Built::refused(22), &[]), None);
+        let (tree, built) = original::tree(&large).expect("at hand").taken();
+        for (built, out) in [(nine, &[][..]), (built, &tree)] {
+            let what = told(built, out).expect("an infinity");
+            assert!(what.ends_with("is not finite"), "{what}");
+        }
     }
 
-    /// Beside the original: accepted files and a refusal by 9. By the rule alone: other refusals.
+    /// Beside the original: accepted files and a refusal by 9 or 22. By the rule alone: other refusals.
     #[test]
     fn cases_are_counted_apart() {
         let good = || just(of_cells(3, 0..9));
@@ -445,6 +644,7 @@ mod tests {
         let cases = [
             (good(), true),
             (with(|case| case.out -= 1), true),
+            (just(two_greatest(2)), true),
             (with(|case| case.scratch -= 1), false),
             (with(|case| case.file[0] ^= 1), false),
         ];

@@ -5,7 +5,7 @@ pub(crate) mod cases;
 pub(crate) mod plain;
 
 use crate::build::{of_cells, Build};
-use crate::ffi;
+use crate::ffi::{self, Built};
 use crate::lent::Lent;
 use crate::open::Open;
 use crate::original::Verdict;
@@ -14,7 +14,7 @@ use crate::report::Report;
 use crate::rule;
 use crate::rule::edit::{Call, ENTRY, FIRST, GREATEST_COUNT};
 use crate::search::{first, shared, Search};
-use cases::{Case, Damaged, Histories, History, DAMAGED, HISTORIES};
+use cases::{Builds, Case, Damaged, Histories, History, DAMAGED, HISTORIES};
 use std::fmt::LowerHex;
 
 /// An implementation of the three calls.
@@ -150,14 +150,19 @@ impl Desk {
                 Ok(_) => self.unlike_the_register(&register),
                 Err(what) => Some(what),
             };
+            let what = what.or_else(|| match history.builds {
+                Builds::AfterEach => self.tree(library.build, &register),
+                _ => None,
+            });
             if let Some(what) = what {
                 return Some((step, what));
             }
         }
-        let built = history
-            .builds
-            .then(|| self.tree(library.build, history.grid, &register));
-        built.flatten().map(|what| (history.calls.len(), what))
+        let what = match history.builds {
+            Builds::AtTheEnd => self.tree(library.build, &register),
+            _ => None,
+        };
+        what.map(|what| (history.calls.len(), what))
     }
 
     /// A working file that is not the register's, or a count e that is not the height of its stack.
@@ -176,18 +181,22 @@ impl Desk {
         })
     }
 
-    /// A tree of the edited file that is not the tree of the register's.
-    fn tree(&mut self, build: Build, grid: usize, register: &Register) -> Option<String> {
-        let (want_tree, want) = rule::tree::tree(&register.file());
-        self.grow_scratch(grid.pow(3));
-        self.tree.clear();
-        self.tree.resize(want_tree.len(), 0xa5);
-        let scratch = &mut self.scratch[..grid.pow(3)];
+    /// A tree of the edited file, or a refusal by 22, that is not the register's.
+    fn tree(&mut self, build: Build, register: &Register) -> Option<String> {
+        let file = register.file();
+        let (tree, built) = rule::tree::tree(&file);
+        let before = vec![0xa5; built.answer as usize];
+        let (want, want_tree) = match tree {
+            Some(tree) => (built, tree),
+            None => (Built::refused(22), before.clone()),
+        };
+        let cells = (rule::grid(&file) as usize).pow(3);
+        self.grow_scratch(cells);
+        self.tree = before;
+        let scratch = &mut self.scratch[..cells];
         let got = build(self.file.slice(), scratch, &mut self.tree);
         if got != want {
-            return Some(format!(
-                "build answers {got}, the register's tree is {want}"
-            ));
+            return Some(format!("build answers {got}, the register's is {want}"));
         }
         unlike("byte of the tree", &self.tree, &want_tree)
     }
@@ -498,6 +507,7 @@ pub(crate) fn check(report: &mut Report) {
 mod tests {
     use super::plain::{plain_edit, Fault, FAULTS};
     use super::*;
+    use crate::build::plain::LARGE;
     use std::collections::{BTreeMap, BTreeSet};
 
     /// Cases of each kind that a test looks at.
@@ -594,6 +604,39 @@ mod tests {
         often("refused calls", &[6, 7, 12, 15, 64]);
         often("there and back", &[12, 13, 14, 15, 64]);
         often("large grids", &[6, 12, 15, 64]);
+        often("over the edge", &[12, 15, 64]);
+    }
+
+    /// Puts take a tree over the edge, removes and undos bring it back, and some that are over it go on.
+    #[test]
+    fn trees_go_over_the_edge_and_back() {
+        let (seed, kind) = history_kind("over the edge");
+        let mut seen = BTreeMap::new();
+        for number in 0..500 {
+            let history = kind.history(seed, number);
+            assert!(history.builds == Builds::AfterEach);
+            let mut register = Register::new(&history.file, history.bytes, history.words);
+            let is_large = |register: &Register| rule::tree::tree(&register.file()).0.is_none();
+            let mut before = is_large(&register);
+            for call in &history.calls {
+                register.answer(call);
+                let after = is_large(&register);
+                let name = match call {
+                    Call::Put { .. } => "put",
+                    Call::Remove { .. } => "remove",
+                    Call::Undo => "undo",
+                };
+                *seen.entry((name, before, after)).or_default() += 1;
+                before = after;
+            }
+        }
+        let met = |name, before, after| seen.get(&(name, before, after)).copied().unwrap_or(0);
+        for name in ["put", "remove", "undo"] {
+            for (before, after) in [(false, true), (true, false), (true, true), (false, false)] {
+                let met: u64 = met(name, before, after);
+                assert!(met > 30, "{name} {before} {after}: {seen:?}");
+            }
+        }
     }
 
     /// Each kind of damage meets the causes that it is for, in each of the calls that have them.
@@ -693,6 +736,7 @@ mod tests {
         assert!(!HISTORIES.iter().any(|kind| twice(kind.name)));
         let unsorted = |history: &History| !rule::working(&history.file);
         assert!(of("short histories").filter(unsorted).count() > 300);
+        assert!(of("over the edge").all(|history| history.calls.len() > 24));
         let total: u64 = HISTORIES.iter().map(|kind| kind.cases).sum();
         assert!(total >= 120_000);
     }
@@ -760,18 +804,20 @@ mod tests {
             none[12..16].fill(0);
             ffi::build(&none, scratch, out)
         };
+        let built = |build: Build| Library { build, ..LIBRARY };
         let (seed, kind) = history_kind("short histories");
         for library in [
             Library {
                 open: journal_kept,
                 ..LIBRARY
             },
-            Library {
-                build: one_root,
-                ..LIBRARY
-            },
+            built(one_root),
         ] {
             assert!(compare(library, seed, kind, FEW).mismatches > 10);
+        }
+        let (seed, kind) = history_kind("over the edge");
+        for large in LARGE {
+            assert!(compare(built(large), seed, kind, 200).mismatches > 10);
         }
     }
 

@@ -105,7 +105,7 @@ impl Built {
     }
 }
 
-/// The binary32 pattern of the binary64 number that `pattern` stands for.
+/// The binary32 pattern of the binary64 number that `pattern` stands for, or 2^32 where it is too large.
 pub(crate) fn narrow(pattern: u64) -> u64 {
     mascon_narrow(f64::from_bits(pattern))
 }

@@ -343,12 +343,50 @@ mod tests {
         }
     }
 
-    /// Whether a kind shows that an implementation is wrong.
+    /// Whether a kind, or the small fixed cases, show that an implementation is wrong.
     fn finds(name: &str, fill: Fill) -> bool {
-        let (seed, kind) = kind(name);
         let mut desk = Desk::new();
+        let mut differs = |case: &Case| desk.differs(fill, case).is_some();
+        if name == "fixed cases" {
+            return fixed::small().iter().any(|(_, case, _)| differs(case));
+        }
+        let (seed, kind) = kind(name);
         let mut cases = (0..kind.cases).map(|number| kind.case(seed, number));
-        cases.any(|case| desk.differs(fill, &case).is_some())
+        cases.any(|case| differs(&case))
+    }
+
+    /// Each of the floats that can be too large, by itself: a mass of either list, a raw sum, a scale, a product; what the rest would be is
+    /// finite. With more points than half the cells it is 18, and the output all zero.
+    #[test]
+    fn floats_are_too_large_each_way() {
+        let of = |name: &str| {
+            let mut cases = fixed::small().into_iter();
+            cases.find(|case| case.0 == name).expect("a case").1
+        };
+        let (cube, mut out) = (of("g 2, masses infinite"), [0xa5; 137]);
+        let answer = rule::fill::fill(&cube.body(), cube.floats as u64, &mut out);
+        assert_eq!((answer, out), (18, [0; 137]));
+        #[cfg(original)]
+        {
+            let words = |name: &str| {
+                let filled = original::filled(&of(name).body()).expect("at hand").taken();
+                let file = filled.expect("few points");
+                let finite = |bytes: &[u8; 4]| f32::from_le_bytes(*bytes).is_finite();
+                let endless = file.as_chunks().0.iter().enumerate();
+                let endless = endless.filter(|(_, word)| !finite(word));
+                endless.map(|(at, _)| at).collect::<BTreeSet<usize>>()
+            };
+            let of_list = |list: usize| [0, 1, 2, 3].map(|point| 18 + list + 4 * point);
+            assert_eq!(words("a Cauchy mass"), [18, 22].into());
+            assert_eq!(words("an elliptic mass"), [19, 23].into());
+            assert_eq!(words("a Cauchy sum"), [14].into());
+            assert_eq!(words("an elliptic sum"), [15].into());
+            assert_eq!(words("nearly both sums"), [].into());
+            let with_scale = [6].into_iter().chain(of_list(0)).collect();
+            assert_eq!(words("a Cauchy scale"), with_scale);
+            assert_eq!(words("an elliptic scale"), of_list(1).into());
+            assert_eq!(words("a product"), [18, 22].into());
+        }
     }
 
     /// Made-up faults are found, and where they should be.

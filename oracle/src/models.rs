@@ -1,5 +1,6 @@
 //! The original itself on models whose answers are known: it is compiled and reached as it should be.
 
+use crate::build::two_greatest;
 use crate::ffi::{self, Built};
 use crate::fill::cases::Case;
 use crate::fill::fixed::walls_at;
@@ -24,7 +25,7 @@ const KERNEL: [f64; 5] = [1.0, 2.0, 3.0, 0.5, 7.0];
 type Model = (&'static str, fn() -> Result<(), String>);
 
 /// They ask the original.
-const MODELS: [Model; 14] = [
+const MODELS: [Model; 16] = [
     ("no record", no_record),
     ("one record", one_record),
     ("all cells of grid 2", full_grid_2),
@@ -32,6 +33,8 @@ const MODELS: [Model; 14] = [
     ("a corner of grid 4", corner_of_grid_4),
     ("a shared slot", shared_slot),
     ("a cell twice", cell_twice),
+    ("two greatest masses", two_greatest_masses),
+    ("narrowing", narrowing),
     ("what the original accepts and the library refuses", laxer),
     (
         "what the original fills and the library refuses",
@@ -204,6 +207,39 @@ fn cell_twice() -> Result<(), String> {
     same("fold", ffi::fold(&file, &mut [0; 8], &mut folded), 80)?;
     let of_later = tree(&folded, 148, 1, &[0])?;
     same("sums once folded", sums(&of_later), [5.0, 6.0])
+}
+
+/// The greatest mass in two cells: the original writes an infinity, build refuses; open takes the file.
+fn two_greatest_masses() -> Result<(), String> {
+    let file = two_greatest(2);
+    same("answers", refused(&file), [96, 22])?;
+    let (tree, _, _) = shim::build_mascon_tree(&file)?;
+    same("its sum", float_at(&tree, 64 + 16), f32::INFINITY)?;
+    same("its nodes are finite", rule::tree::is_finite(&tree), false)?;
+    let mut out = [7; 152];
+    let built = ffi::build(&file, &mut [0; 8], &mut out);
+    same("build", built, Built::refused(22))?;
+    same("the output", out, [7; 152])
+}
+
+/// The starred numbers, and a NaN: by Rust's `as f32`, with which the original narrows, and by the library.
+fn narrowing() -> Result<(), String> {
+    let power = |exponent: i32| 2f64.powi(exponent);
+    let models = [
+        (1.0 + power(-24), 0x3f80_0000, 0x3f80_0000),
+        (1.0 + 3.0 * power(-24), 0x3f80_0002, 0x3f80_0002),
+        (3.0 * power(-150), 0x0000_0002, 0x0000_0002),
+        (power(128) - power(103), 0x7f80_0000, 0x1_0000_0000),
+        (power(103) - power(128), 0xff80_0000, 0x1_0000_0000),
+        (f64::INFINITY, 0x7f80_0000, 0x1_0000_0000),
+    ];
+    for (x, by_original, by_library) in models {
+        let float = original::narrowed(x.to_bits()).map(Answered::taken);
+        let told = (float.map(f32::to_bits), ffi::narrow(x.to_bits()));
+        same(&format!("{x:e}"), told, (Some(by_original), by_library))?;
+    }
+    let nan = 0xfff8_0000_0000_0001;
+    same("a NaN", ffi::narrow(nan), 0x1_0000_0000)
 }
 
 /// g 2 with (1, 0, 0), 16 bytes to spare, 7 journal words: put (0, 0, 0), remove (1, 0, 0), by the library.

@@ -1,13 +1,15 @@
-//! Narrowing binary64 to binary32: the proved library against Rust's `as f32`.
+//! Narrowing binary64 to binary32: the proved library against the rule and Rust's `as f32`.
 //!
-//! A case is a binary64 pattern. Rust leaves a NaN's answer open; the library's is 0x7fc00000.
+//! A case is a binary64 pattern. What is too large, a NaN too, has one answer, 2^32; Rust gives an infinity, and leaves a NaN's answer open.
 
 use crate::ffi;
 use crate::original::{self, Verdict};
 use crate::report::{Cases, Found, Report};
 use crate::rng::Rng;
+use crate::rule;
 
-pub(crate) const QUIET_NAN: u32 = 0x7fc0_0000;
+/// The answer for a number that is too large: one more than any pattern.
+const TOO_LARGE: u64 = 1 << 32;
 
 const SIGN: u64 = 1 << 63;
 const FRACTION_BITS: u32 = 52;
@@ -21,8 +23,8 @@ const HALF_OF_LEAST: u64 = 1023 - 150;
 /// The exponent field of 2^127, the last of binary32.
 const LAST_NORMAL: u64 = 1023 + 127;
 
-/// 2^128 − 2^103: from here on narrowing gives infinity.
-const OVERFLOW: u64 = (LAST_NORMAL << FRACTION_BITS) | (FRACTION - 0x0fff_ffff);
+/// The pattern of 2^128 − 2^103.
+const OVERFLOW: u64 = rule::TOO_LARGE.to_bits();
 
 /// Magnitudes at which the kind of answer changes.
 const EDGES: [u64; 8] = [
@@ -36,30 +38,36 @@ const EDGES: [u64; 8] = [
     0,
 ];
 
+/// An implementation of narrowing, on patterns.
+type Narrow = fn(u64) -> u64;
+
 /// Random patterns of each class.
 const DRAWS: u64 = 10_000_000;
 
-/// The answer that the library owes.
-pub(crate) fn expected(pattern: u64) -> u32 {
-    let x = f64::from_bits(pattern);
-    if x.is_nan() {
-        QUIET_NAN
-    } else {
-        (x as f32).to_bits()
-    }
+/// A finite float's pattern; 2^32 where there is none.
+fn answer(float: Option<f32>) -> u64 {
+    float.map_or(TOO_LARGE, |float| u64::from(float.to_bits()))
 }
 
-/// The library's answer, held to Rust's where it has one, and to the answer owed.
-fn verdict(pattern: u64) -> Verdict {
-    let got = ffi::narrow(pattern);
-    let differs = |want: u32| {
+/// The answer that the library owes.
+fn expected(pattern: u64) -> u64 {
+    answer(rule::narrowed(f64::from_bits(pattern)))
+}
+
+/// An implementation's answer, held to Rust's where it has one, and to the answer owed; an infinity of Rust's stands for too large.
+fn verdict(narrow: Narrow, pattern: u64) -> Verdict {
+    let got = narrow(pattern);
+    let differs = |want: u64| {
         let x = f64::from_bits(pattern);
         let told =
             || format!("{pattern:#018x} ({x:e}): library {got:#010x}, expected {want:#010x}");
-        (got != u64::from(want)).then(told)
+        (got != want).then(told)
     };
-    Verdict::by_original(original::narrowed(pattern), differs)
-        .and(|| Verdict::by_rule(differs(expected(pattern))))
+    let finite = |float: f32| Some(float).filter(|float| float.is_finite());
+    Verdict::by_original(original::narrowed(pattern), |float| {
+        differs(answer(finite(float)))
+    })
+    .and(|| Verdict::by_rule(differs(expected(pattern))))
 }
 
 /// A class of random patterns.
@@ -269,19 +277,23 @@ fn shrink(mut pattern: u64, fails: impl Fn(u64) -> bool) -> u64 {
 
 /// Compares patterns that come from anywhere.
 pub(crate) fn compare(patterns: impl Iterator<Item = u64>) -> Found {
-    let mut search = Search::new(verdict);
+    let mut search = Search::new(by_library);
     patterns.for_each(|pattern| search.visit(pattern));
     search.found()
 }
 
+fn by_library(pattern: u64) -> Verdict {
+    verdict(ffi::narrow, pattern)
+}
+
 pub(crate) fn check(report: &mut Report) {
     report.run("narrow: every exponent", || {
-        let mut search = Search::new(verdict);
+        let mut search = Search::new(by_library);
         at_every_exponent(|pattern| search.visit(pattern));
         search.found()
     });
     report.run("narrow: edges", || {
-        let mut search = Search::new(verdict);
+        let mut search = Search::new(by_library);
         at_every_edge(|pattern| search.visit(pattern));
         search.found()
     });
@@ -301,19 +313,73 @@ mod tests {
         2f64.powi(exponent)
     }
 
-    /// The starred models of narrowing, of the library and of Rust.
+    /// The starred models of narrowing, of the library and of the rule.
     #[test]
     fn models() {
         let models = [
             (1.0 + power(-24), 0x3f80_0000),
             (1.0 + 3.0 * power(-24), 0x3f80_0002),
             (3.0 * power(-150), 0x0000_0002),
-            (power(128) - power(103), 0x7f80_0000),
+            (power(128) - power(103), 0x1_0000_0000),
         ];
         for (x, answer) in models {
             assert_eq!(expected(x.to_bits()), answer);
-            assert_eq!(ffi::narrow(x.to_bits()), u64::from(answer));
+            assert_eq!(ffi::narrow(x.to_bits()), answer);
         }
+    }
+
+    /// An implementation agrees with the rule and with Rust on the edges and on every class.
+    fn agrees(narrow: Narrow) -> bool {
+        let mut search = Search::new(|pattern| verdict(narrow, pattern));
+        near_edges(8, &mut |pattern| search.visit(pattern));
+        for class in &CLASSES {
+            let mut rng = Rng::new(1);
+            (0..1000).for_each(|_| search.visit((class.draw)(&mut rng)));
+        }
+        search.mismatches == 0
+    }
+
+    /// Made-up faults are found; most of them in what is too large.
+    #[test]
+    fn faults_are_found() {
+        let by_rust = |pattern: u64| f64::from_bits(pattern) as f32;
+        assert!(agrees(expected));
+        let infinity_answered: Narrow = |pattern| match f64::from_bits(pattern) {
+            x if x.is_nan() => TOO_LARGE,
+            x => u64::from((x as f32).to_bits()),
+        };
+        let nan_answered: Narrow = |pattern| match f64::from_bits(pattern) {
+            x if x.is_nan() => 0x7fc0_0000,
+            _ => expected(pattern),
+        };
+        let from_infinity: Narrow = |pattern| match f64::from_bits(pattern) {
+            x if x.abs() >= 2f64.powi(128) => TOO_LARGE,
+            x if x.is_nan() => TOO_LARGE,
+            x => u64::from((x as f32).clamp(f32::MIN, f32::MAX).to_bits()),
+        };
+        let above_threshold: Narrow = |pattern| match f64::from_bits(pattern).abs() {
+            x if x == rule::TOO_LARGE => u64::from(f32::MAX.to_bits()),
+            _ => expected(pattern),
+        };
+        let greatest_refused: Narrow = |pattern| match f64::from_bits(pattern).abs() as f32 {
+            f32::MAX => TOO_LARGE,
+            _ => expected(pattern),
+        };
+        let sign_kept: Narrow = |pattern| match expected(pattern) {
+            TOO_LARGE => TOO_LARGE | pattern >> 63,
+            answer => answer,
+        };
+        for faulty in [
+            infinity_answered,
+            nan_answered,
+            from_infinity,
+            above_threshold,
+            greatest_refused,
+            sign_kept,
+        ] {
+            assert!(!agrees(faulty));
+        }
+        assert!(by_rust(OVERFLOW).is_infinite() && by_rust(OVERFLOW - 1) == f32::MAX);
     }
 
     #[test]
@@ -390,7 +456,7 @@ mod tests {
     fn cases_are_counted_apart() {
         let numbers = [0.0, -1.5, 1e300, 5e-324, f64::NEG_INFINITY];
         let patterns = numbers.map(f64::to_bits).into_iter();
-        let nans = [QUIET_NAN.into(), u64::MAX].map(|low: u64| low | 0x7ff0_0000_0000_0000);
+        let nans = [1, u64::MAX].map(|low: u64| low | 0x7ff0_0000_0000_0000);
         let found = compare(patterns.chain(nans));
         let beside = 5 * u64::from(original::AT_HAND);
         assert_eq!(found.cases.apart(), (beside, 7 - beside));

@@ -87,14 +87,14 @@ impl Verdict {
 
 /// What Rust's `as f32` gives, by which the original narrows; a NaN's answer is left open.
 #[cfg(original)]
-pub(crate) fn narrowed(pattern: u64) -> Option<Answered<u32>> {
+pub(crate) fn narrowed(pattern: u64) -> Option<Answered<f32>> {
     let x = f64::from_bits(pattern);
-    (!x.is_nan()).then(|| Answered((x as f32).to_bits()))
+    (!x.is_nan()).then_some(Answered(x as f32))
 }
 
 /// Nothing: the original is not at hand.
 #[cfg(not(original))]
-pub(crate) fn narrowed(_: u64) -> Option<Answered<u32>> {
+pub(crate) fn narrowed(_: u64) -> Option<Answered<f32>> {
     None
 }
 

@@ -1,4 +1,4 @@
-//! 01's rule for point files in plain steps, written from the paper and not from the library: slow, and meant to be read.
+//! 01's rule for point files and for narrowing in plain steps, written from the paper and not from the library: slow, and meant to be read.
 
 pub(crate) mod edit;
 pub(crate) mod fill;
@@ -18,6 +18,15 @@ pub(crate) const FLOATS: [usize; 9] = [16, 20, 24, 32, 36, 40, 44, 48, 52];
 
 /// Offsets of min and of max, an axis each.
 pub(crate) const AXES: [(usize, usize); 3] = [(32, 44), (36, 48), (40, 52)];
+
+/// 2^128 − 2^103: a number is too large for binary32 from this magnitude up.
+pub(crate) const TOO_LARGE: f64 = (u128::MAX - (1 << 103) + 1) as f64;
+
+/// A number narrowed to binary32, ties to even; nothing where it is too large, as an infinity and a NaN are. All that is written as a
+/// float is narrowed by this.
+pub(crate) fn narrowed(number: f64) -> Option<f32> {
+    (number.abs() < TOO_LARGE).then_some(number as f32)
+}
 
 /// A record's fields as they stand; a mass is its float's bits.
 struct Record {
@@ -253,6 +262,22 @@ mod tests {
         let (mut out, mut journal) = (vec![0xa5; out], vec![0x5a5a_5a5a; journal]);
         let answer = open(file, scratch, &mut out, &mut journal);
         (answer, out, journal)
+    }
+
+    /// The greatest float is what is given up to the threshold; from there on nothing is.
+    #[test]
+    fn numbers_too_large() {
+        assert_eq!(TOO_LARGE, 2f64.powi(128) - 2f64.powi(103));
+        let [below, above] = [TOO_LARGE.next_down(), TOO_LARGE.next_up()];
+        for number in [f64::from(f32::MAX), below] {
+            assert_eq!(narrowed(number), Some(f32::MAX));
+            assert_eq!(narrowed(-number), Some(f32::MIN));
+        }
+        for number in [TOO_LARGE, above, f64::MAX, f64::INFINITY, f64::NAN] {
+            assert_eq!([narrowed(number), narrowed(-number)], [None; 2]);
+        }
+        let zeros = [-0.0, 2f64.powi(-150)].map(|zero| narrowed(zero).map(f32::to_bits));
+        assert_eq!(zeros, [Some(0x8000_0000), Some(0)]);
     }
 
     #[test]

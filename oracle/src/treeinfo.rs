@@ -1,7 +1,7 @@
 //! The program `treeinfo`: the line that it prints about a file on its standard input, against the rule.
 
 use crate::build::cases::KINDS;
-use crate::build::of_cells;
+use crate::build::{of_cells, two_greatest};
 use crate::original::Verdict;
 use crate::points::{point_file, record, Header, Record};
 use crate::report::{Cases, Found, Report};
@@ -138,7 +138,8 @@ fn every_fourth(records: usize) -> Vec<u8> {
 
 /// The most of these records whose tree has room.
 fn as_many_as_fit() -> usize {
-    let fits = |&records: &usize| rule::tree::tree(&every_fourth(records)).0.len() <= OUT;
+    let length = |records: usize| rule::tree::tree(&every_fourth(records)).1.answer;
+    let fits = |&records: &usize| length(records) <= OUT as u64;
     (0..=MOST).rev().find(fits).expect("none at all fit")
 }
 
@@ -155,6 +156,8 @@ fn fixed() -> Vec<Input> {
     let full = || of_cells(16, 0..MOST as u64);
     let twice = |g: u32| of_cells(g, [4, 7, 0, 4].into_iter());
     let too_long_and_twice = with(every_fourth(MOST), READ - 16, &[0; 6]);
+    let greatest = f32::MAX.to_le_bytes();
+    let heavy = |file: Vec<u8>| with(with(file, 72, &greatest), 88, &greatest);
     let junk = (0..5000u32).map(|at| (at * 37 + 11) as u8);
     let fit = as_many_as_fit();
     let said = |name, bytes, line| Input {
@@ -207,6 +210,15 @@ fn fixed() -> Vec<Input> {
             "every fourth cell, the first twice",
             too_long_and_twice,
             "refused 21",
+        ),
+        said("two greatest masses", two_greatest(2), "refused 22"),
+        said("g 17, two greatest masses", two_greatest(17), "refused 8"),
+        said("a plane, two greatest", heavy(plane()), "refused 22"),
+        said("a cell twice, two greatest", heavy(twice(3)), "refused 21"),
+        said(
+            "every fourth cell, two greatest",
+            heavy(every_fourth(MOST)),
+            "refused 22",
         ),
         said(
             "g 16, one record",
@@ -280,7 +292,7 @@ mod tests {
     #[test]
     fn the_rule_agrees_with_itself() {
         let by_rule = |input: &[u8]| Ok(line(input).into_bytes());
-        for (inputs, cases) in [(fixed(), 28), (small(), SMALL as u64)] {
+        for (inputs, cases) in [(fixed(), 33), (small(), SMALL as u64)] {
             let search = compare(by_rule, &inputs);
             assert_eq!((search.cases.apart(), search.mismatches), ((0, cases), 0));
         }
@@ -294,7 +306,8 @@ mod tests {
             let causes = lines.filter_map(|line| Some(line.strip_prefix("refused ")?.to_owned()));
             causes.collect::<BTreeSet<_>>()
         };
-        let all = (1..10).chain([21]).map(|cause| format!("{cause}\n"));
+        let all = (1..10).chain([21, 22]);
+        let all = all.map(|cause| format!("{cause}\n"));
         assert_eq!(causes(&fixed()), all.collect::<BTreeSet<_>>());
         let small = small();
         assert!(causes(&small).len() >= 7);
@@ -327,8 +340,14 @@ mod tests {
         assert_eq!(found(|input| line(input) + " ").len(), all);
         assert_eq!(
             found(|input| line(input).replace("refused 8", "refused 9")),
-            ["g 17, three records", "g 17, a cell twice"]
+            [
+                "g 17, three records",
+                "g 17, a cell twice",
+                "g 17, two greatest masses"
+            ]
         );
+        let as_nine = |input: &[u8]| line(input).replace("refused 22", "refused 9");
+        assert_eq!(found(as_nine).len(), 3);
         let more = |input: &[u8]| match input.len() {
             16_400 => "nodes 1 order 1 bytes 148\n".to_owned(),
             _ => line(input),

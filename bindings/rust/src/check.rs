@@ -1,11 +1,15 @@
 //! Point files, trees and the lists of a filling judged in full: every fault with its cause, record, field and byte.
 
-use crate::points::{float_at, grid_of, half_at, records_of, word_at, HEADER, POINTS_WORD, RECORD};
+use crate::boxes::{Cells, Metres};
+use crate::floats::each_too_large;
+use crate::points::{
+    float_at, grid_of, half_at, judge, records_of, word_at, HEADER, POINTS_WORD, RECORD,
+};
 use crate::tree::{NODE, TREE_WORD};
 use crate::twice::{repeated, Twice};
 use crate::{
-    cells, ffi, Kernel, Point, Refusal, Triangle, MAX_COORDINATE, MAX_GRID, MAX_KERNELS, MAX_SIGMA,
-    MAX_TRIANGLES, MAX_WEIGHT,
+    cells, ffi, Field, Header, Kernel, Point, Refusal, Triangle, MAX_COORDINATE, MAX_GRID,
+    MAX_KERNELS, MAX_SIGMA, MAX_TRIANGLES, MAX_WEIGHT,
 };
 use std::fmt;
 
@@ -20,6 +24,8 @@ pub enum Place {
     Record(usize),
     /// A node of a tree, from 0.
     Node(usize),
+    /// A node of the tree that a point file does not get, from 0.
+    Unbuilt(usize),
     /// An order word of a tree, from 0.
     Order(usize),
     /// A triangle of a mesh, from 0.
@@ -35,13 +41,14 @@ pub enum Place {
 /// A fault of a file, or of what is to be filled.
 #[derive(Clone, PartialEq, Eq)]
 pub struct Fault {
-    /// The cause by which a point file or a filling is refused, none in a tree.
+    /// The cause by which a point file or a filling is refused. In a tree none, but where a float is infinite 22, by which its point file
+    /// is refused.
     pub cause: Option<Refusal>,
     /// What it stands in.
     pub place: Place,
     /// The field's name.
     pub field: &'static str,
-    /// The field's first byte, from 0; of a list, as it is lent to the library.
+    /// The field's first byte, from 0; of a list, as it is lent to the library; of a node that is not built, in its tree.
     pub offset: usize,
     /// What is wrong.
     pub why: String,
@@ -57,6 +64,7 @@ impl fmt::Display for Fault {
             Place::Header => write!(f, "header")?,
             Place::Record(i) => write!(f, "record {i}")?,
             Place::Node(i) => write!(f, "node {i}")?,
+            Place::Unbuilt(i) => write!(f, "node {i} of its tree")?,
             Place::Order(i) => write!(f, "order word {i}")?,
             Place::Triangle(i) => write!(f, "triangle {i}")?,
             Place::CauchyKernel(i) => write!(f, "Cauchy kernel {i}")?,
@@ -66,7 +74,8 @@ impl fmt::Display for Fault {
         write!(f, ", {}", self.field)?;
         let of_file = !matches!(
             self.place,
-            Place::Triangle(_)
+            Place::Unbuilt(_)
+                | Place::Triangle(_)
                 | Place::CauchyKernel(_)
                 | Place::EllipticKernel(_)
                 | Place::Argument
@@ -304,6 +313,42 @@ pub fn check_working_form(bytes: &[u8], most: usize) -> Report {
     report
 }
 
+/// What keeps an accepted point file from having a tree (cause 22 of build; open and the edits take the file), `most` listed: the floats
+/// of its tree that are too large, in preorder. Of a file that is not accepted nothing is said; see [`check_points`].
+///
+/// It takes a walk over the whole tree, some of the time that building it takes.
+///
+/// ```
+/// use mascon::{check::check_floats, shapes, Model};
+///
+/// let mut model = Model::open(&shapes::empty_file(4, [0.0; 3], [4.0; 3]))?;
+/// model.put(1, 2, 3, 0.0, -2.0e38)?;
+/// assert!(check_floats(model.as_bytes(), 10).is_clean());
+/// model.put(3, 2, 1, 0.0, -2.0e38)?;
+/// let report = check_floats(model.as_bytes(), 10);
+/// assert_eq!(
+///     report.faults[0].to_string(),
+///     "cause 22: node 0 of its tree, elliptic sum: -3.999999872114277e38 is too large for a float, in cells (0, 0, 0) to (3, 3, 3)"
+/// );
+/// # Ok::<(), mascon::Refusal>(())
+/// ```
+pub fn check_floats(bytes: &[u8], most: usize) -> Report {
+    let mut report = Report::new(most);
+    if judge(bytes).is_err() {
+        return report;
+    }
+    each_too_large(bytes, |float| {
+        let (node, field) = (float.node as usize, float.field);
+        let (place, at) = (Place::Unbuilt(node), HEADER + NODE * node + field.offset());
+        report.add_with(Refusal::FloatTooLarge, place, field.name(), at, || {
+            let (value, cells) = (float.value, float.cells());
+            format!("{value:e} is too large for a float, in {cells}")
+        });
+        true
+    });
+    report
+}
+
 /// How many bytes follow the last record of a point file. No call reads them; opening the file drops them.
 ///
 /// ```
@@ -433,43 +478,10 @@ fn kernel_faults(
     }
 }
 
-/// A box of cells, ends excluded.
-#[derive(Clone, Copy)]
-struct Cells {
-    low: [u32; 3],
-    high: [u32; 3],
-}
-
-impl Cells {
-    fn width(&self, axis: usize) -> u32 {
-        self.high[axis] - self.low[axis]
-    }
-
-    fn one_cell(&self) -> bool {
-        (0..3).all(|axis| self.width(axis) == 1)
-    }
-
-    /// The widest axis is split, ties to x, then y.
-    fn halves(self) -> [Cells; 2] {
-        let mut axis = 0;
-        for other in 1..3 {
-            if self.width(other) > self.width(axis) {
-                axis = other;
-            }
-        }
-        let middle = self.low[axis] + self.width(axis) / 2;
-        let (mut left, mut right) = (self, self);
-        left.high[axis] = middle;
-        right.low[axis] = middle;
-        [left, right]
-    }
-}
-
 struct TreeWalk<'a> {
     bytes: &'a [u8],
     nodes: usize,
-    min: [f64; 3],
-    cell: [f64; 3],
+    metres: Metres,
     /// The next node in preorder.
     next: usize,
     /// Points of the leaves so far.
@@ -499,9 +511,9 @@ impl TreeWalk<'_> {
             return None;
         }
         self.next += 1;
-        self.judge_box(node, cells);
+        self.judge_floats(node, cells);
         let found = float_at(self.bytes, HEADER + NODE * node + 76);
-        let volume = (0..3).map(|axis| cells.width(axis)).product::<u32>();
+        let volume = cells.volume();
         if !(0.0..=volume as f32).contains(&found)
             || found.fract() != 0.0
             || found.is_sign_negative()
@@ -515,7 +527,7 @@ impl TreeWalk<'_> {
             return None;
         }
         let count = found as u32;
-        let leaf = count > 0 && (count <= 8 || cells.one_cell());
+        let leaf = cells.is_leaf(count);
         if count == 0 || leaf {
             self.expect(node, "left", 24, -1.0);
             self.expect(node, "right", 28, -1.0);
@@ -544,21 +556,36 @@ impl TreeWalk<'_> {
         Some((node, count))
     }
 
-    fn judge_box(&mut self, node: usize, Cells { low, high }: Cells) {
-        let names = ["centre x", "centre y", "centre z"];
-        let [low, high] = [low, high].map(|ends| ends.map(f64::from));
-        let mut half = 0.0_f64;
-        for axis in 0..3 {
-            let center = self.min[axis] + (low[axis] + high[axis]) * 0.5 * self.cell[axis];
-            self.expect(node, names[axis], 4 * axis, center as f32);
-            half = half.max((high[axis] - low[axis]) * 0.5 * self.cell[axis]);
+    /// The box's four floats by the box, the others by being finite.
+    fn judge_floats(&mut self, node: usize, cells: Cells) {
+        let [x, y, z] = self.metres.center(cells);
+        let wanted = [x, y, z, self.metres.half(cells)];
+        let (of_box, others) = Field::ALL.split_at(wanted.len());
+        for (field, wanted) in of_box.iter().zip(wanted) {
+            self.expect(node, field.name(), field.offset(), wanted as f32);
         }
-        self.expect(node, "half", 12, half as f32);
+        for field in others {
+            let at = HEADER + NODE * node + field.offset();
+            let found = float_at(self.bytes, at);
+            let (cause, why) = if found.is_infinite() {
+                let cause = Some(Refusal::FloatTooLarge);
+                (cause, format!("{found}, which was too large for a float"))
+            } else if found.is_nan() {
+                (None, "NaN, which no build writes: damaged".to_string())
+            } else {
+                continue;
+            };
+            let place = Place::Node(node);
+            self.report.add(cause, place, field.name(), at, why);
+        }
     }
 }
 
-/// The faults of a tree file (RTM1, version 2), `most` of them listed: header, boxes, links, counts, leaf ranges and order. Masses and
-/// centres of mass are not judged, they take the point file.
+/// The faults of a tree file (RTM1, version 2), `most` of them listed: header, boxes, links, counts, leaf ranges and order, and floats
+/// that are not finite. Masses and centres of mass are not judged otherwise, they take the point file.
+///
+/// An infinity stands where a float was too large, as the original writes it and builds before version 0.3.0 did. Build refuses such a
+/// point file (22), which is the fault's cause.
 ///
 /// ```
 /// use mascon::{check::check_tree, shapes, Model};
@@ -579,21 +606,15 @@ fn tree_report(bytes: &[u8], most: usize) -> Report {
         return report;
     }
     let [grid, nodes] = [8, 56].map(|at| word_at(bytes, at));
-    let ends = |at: usize| crate::points::floats_at(bytes, at).map(f64::from);
-    let (min, max) = (ends(32), ends(44));
     let mut walk = TreeWalk {
         bytes,
         nodes: nodes as usize,
-        min,
-        cell: [0, 1, 2].map(|axis| (max[axis] - min[axis]) / f64::from(grid)),
+        metres: Metres::of(&Header::of(bytes)),
         next: 0,
         ordered: 0,
         report,
     };
-    let whole = walk.walk(Cells {
-        low: [0; 3],
-        high: [grid; 3],
-    });
+    let whole = walk.walk(Cells::whole(grid));
     let (next, ordered, mut report) = (walk.next, walk.ordered, walk.report);
     if whole.is_some() {
         if next != nodes as usize {

@@ -12,6 +12,9 @@ use crate::Refusal;
 pub(crate) use mode::in_default_mode;
 use mode::Mode;
 
+/// What narrow answers of a number that is too large: 2^32.
+const TOO_LARGE: u64 = 1 << 32;
+
 /// What build answers.
 #[repr(C)]
 pub(crate) struct Built {
@@ -142,8 +145,12 @@ fn refusal(answer: u64) -> Refusal {
     Refusal::from_number(answer).unwrap_or(Refusal::Unknown(answer))
 }
 
-pub(crate) fn narrow(x: f64) -> u32 {
-    u32::try_from(unsafe { mascon_narrow(x) }).expect("below 2^32")
+/// None where it is too large.
+pub(crate) fn narrow(x: f64) -> Option<u32> {
+    match unsafe { mascon_narrow(x) } {
+        TOO_LARGE => None,
+        pattern => Some(u32::try_from(pattern).expect("up to 2^32")),
+    }
 }
 
 pub(crate) fn inside(

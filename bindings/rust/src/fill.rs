@@ -122,11 +122,15 @@ pub fn build_mascon(
     Ok(out)
 }
 
-/// The binary32 nearest to a binary64, ties to even, infinity from magnitude 2^128 − 2^103 up: how masses and centres are written.
+/// The binary32 nearest to a binary64, ties to even: how masses and centres are written. None where it is too large: from magnitude
+/// 2^128 − 2^103 up, an infinity or a NaN.
 ///
 /// ```
-/// assert_eq!(mascon::narrow(0.1), 0.1_f32);
+/// assert_eq!(mascon::narrow(0.1), Some(0.1_f32));
+/// let end = 2_f64.powi(128) - 2_f64.powi(103);
+/// assert_eq!(mascon::narrow(end), None);
+/// assert_eq!(mascon::narrow(end.next_down()), Some(f32::MAX));
 /// ```
-pub fn narrow(x: f64) -> f32 {
-    f32::from_bits(ffi::narrow(x))
+pub fn narrow(x: f64) -> Option<f32> {
+    ffi::narrow(x).map(f32::from_bits)
 }

@@ -2,11 +2,13 @@
 #![deny(missing_docs)]
 #![deny(unsafe_code)]
 
+mod boxes;
 pub mod check;
 mod departures;
 pub mod draw;
 mod ffi;
 mod fill;
+mod floats;
 pub mod mesh;
 mod model;
 mod model_file;
@@ -23,6 +25,7 @@ pub use fill::{
     build_mascon, is_inside, narrow, Kernel, Triangle, MAX_COORDINATE, MAX_KERNELS, MAX_SIGMA,
     MAX_TRIANGLES, MAX_WEIGHT,
 };
+pub use floats::{Field, TreeFloat};
 pub use model::{ApplyError, Change, Entry, Model, MAX_ENTRIES};
 pub use model_file::{beside_model, journal_path, ModelFile, ModelFileError, Reading};
 pub use points::{build_mascon_tree, parse_mascon_bytes, Header, MasconSource, Point, Points};

@@ -1,8 +1,8 @@
 use crate::points::{grid_of, records_of, scratch, HEADER, RECORD};
 use crate::twice::dropped;
 use crate::{
-    cells, ffi, model_file, Dropped, Edit, Header, Kernel, ModelFile, ModelFileError, OpenError,
-    Point, Points, Refusal, Tree, Triangle,
+    cells, ffi, floats, model_file, Dropped, Edit, Header, Kernel, ModelFile, ModelFileError,
+    OpenError, Point, Points, Refusal, Tree, TreeFloat, Triangle,
 };
 use std::collections::HashMap;
 use std::fmt;
@@ -616,9 +616,29 @@ impl Model {
     /// ```
     ///
     /// # Errors
-    /// None today: a model in working form has a tree.
-    pub fn tree(&self) -> Result<Tree, Refusal> {
-        Ok(Tree::build(self.as_bytes())?)
+    /// 22 where a float of the tree is too large, with the first one in preorder. The model is as it was: it can be edited, and saved.
+    pub fn tree(&self) -> Result<Tree, OpenError> {
+        Tree::build(self.as_bytes())
+    }
+
+    /// The float of the model's tree that is greatest in magnitude, sums in kilograms and places in metres alike, the first of equal
+    /// ones: how far the model is from a refusal of [`tree`](Model::tree) by 22, which comes exactly where this one is too large.
+    ///
+    /// It takes a walk over the whole tree, some of the time that building it takes.
+    ///
+    /// ```
+    /// use mascon::{shapes, Field, Model};
+    ///
+    /// let mut model = Model::open(&shapes::empty_file(8, [0.0; 3], [8.0; 3]))?;
+    /// model.put(1, 2, 3, 2.0e38, 0.0)?;
+    /// let float = model.greatest_float();
+    /// assert_eq!((float.field, float.is_too_large()), (Field::CauchySum, false));
+    /// model.put(3, 2, 1, 2.0e38, 0.0)?;
+    /// assert!(model.greatest_float().is_too_large() && model.tree().is_err());
+    /// # Ok::<(), mascon::Refusal>(())
+    /// ```
+    pub fn greatest_float(&self) -> TreeFloat {
+        floats::greatest(self.as_bytes())
     }
 
     /// The point file (RYM1), in working form.

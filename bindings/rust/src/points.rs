@@ -1,3 +1,4 @@
+use crate::boxes::Metres;
 use crate::{cells, ffi, Labelled, OpenError, Refusal};
 
 /// The length of a point file's header.
@@ -39,15 +40,15 @@ pub struct Point {
 }
 
 impl Point {
+    #[inline]
     pub(crate) fn at(bytes: &[u8], record: usize) -> Point {
-        let at = HEADER + RECORD * record;
-        let [x, y, z] = [0, 2, 4].map(|axis| u32::from(half_at(bytes, at + axis)));
+        let record = &bytes[HEADER + RECORD * record..][..RECORD];
         Point {
-            x,
-            y,
-            z,
-            cauchy_mass: float_at(bytes, at + 8),
-            elliptic_mass: float_at(bytes, at + 12),
+            x: half_at(record, 0).into(),
+            y: half_at(record, 2).into(),
+            z: half_at(record, 4).into(),
+            cauchy_mass: float_at(record, 8),
+            elliptic_mass: float_at(record, 12),
         }
     }
 
@@ -111,11 +112,7 @@ impl Header {
 
     /// The middle of a cell in metres.
     pub fn middle(&self, x: u32, y: u32, z: u32) -> [f64; 3] {
-        let cell = self.cell_size();
-        let middle = |axis: usize, index: u32| {
-            f64::from(self.min[axis]) + (f64::from(index) + 0.5) * cell[axis]
-        };
-        [middle(0, x), middle(1, y), middle(2, z)]
+        Metres::of(self).place([x, y, z].map(f64::from))
     }
 
     /// The cell that a place in metres lies in, or none outside the box, which it is held against in the box's binary32. A place on
@@ -199,12 +196,20 @@ pub(crate) fn records_of(file: &[u8]) -> usize {
     ((file.len() - HEADER) / RECORD).min(word_at(file, 12) as usize)
 }
 
-/// Causes 1 to 7 and 21 of a file. With no byte of output, open answers 9 exactly where none of them holds.
+/// Causes 1 to 7 and 21 of a file.
 pub(crate) fn judge(file: &[u8]) -> Result<(), OpenError> {
-    match ffi::open(file, &mut scratch(file), &mut [], &mut []) {
+    judged(file, |scratch| ffi::open(file, scratch, &mut [], &mut []))
+}
+
+/// The cause by which a call refuses a file. With no byte of output it answers 9 exactly where no other one holds.
+pub(crate) fn judged<T>(
+    file: &[u8],
+    call: impl FnOnce(&mut [u32]) -> Result<T, Refusal>,
+) -> Result<(), OpenError> {
+    match call(&mut scratch(file)) {
         Err(Refusal::OutputTooShort) => Ok(()),
         Err(refusal) => Err(OpenError::of(refusal, file)),
-        Ok(_) => unreachable!("a working form has a header, which takes 64 bytes of output"),
+        Ok(_) => unreachable!("what is written has a header, which takes 64 bytes of output"),
     }
 }
 
@@ -218,10 +223,16 @@ pub(crate) fn scratch(file: &[u8]) -> Vec<u32> {
 /// For edits, make it a [`Model`](crate::Model) with [`open`](MasconSource::open).
 #[derive(Clone, Debug)]
 pub struct MasconSource {
+    label: String,
     bytes: Vec<u8>,
 }
 
 impl MasconSource {
+    /// The label that it was parsed with.
+    pub fn label(&self) -> &str {
+        &self.label
+    }
+
     /// The header.
     pub fn header(&self) -> Header {
         Header::of(&self.bytes)
@@ -250,7 +261,7 @@ impl MasconSource {
     /// The model of these points.
     ///
     /// # Errors
-    /// None today: it was judged when it was parsed.
+    /// None: it was judged when it was parsed.
     pub fn open(&self) -> Result<crate::Model, Refusal> {
         Ok(crate::Model::open(&self.bytes)?)
     }
@@ -268,18 +279,12 @@ impl MasconSource {
 /// # Errors
 /// 1 to 7, 21, with the label.
 pub fn parse_mascon_bytes(bytes: &[u8], label: &str) -> Result<MasconSource, Labelled> {
-    match judge(bytes) {
-        Ok(()) => {
-            let length = HEADER + RECORD * word_at(bytes, 12) as usize;
-            let bytes = bytes[..length].to_vec();
-            Ok(MasconSource { bytes })
-        }
-        Err(OpenError { refusal, twice }) => Err(Labelled {
-            label: label.to_string(),
-            refusal,
-            twice,
-        }),
-    }
+    judge(bytes).map_err(|error| error.labelled(label))?;
+    let length = HEADER + RECORD * word_at(bytes, 12) as usize;
+    Ok(MasconSource {
+        label: label.to_string(),
+        bytes: bytes[..length].to_vec(),
+    })
 }
 
 /// Builds the tree of a point file, with the original's name, arguments and answer: its bytes (RTM1), how many nodes and how many
@@ -294,9 +299,10 @@ pub fn parse_mascon_bytes(bytes: &[u8], label: &str) -> Result<MasconSource, Lab
 /// ```
 ///
 /// # Errors
-/// None today: it was judged when it was parsed.
-pub fn build_mascon_tree(source: &MasconSource) -> Result<(Vec<u8>, usize, usize), Refusal> {
-    let tree = crate::Tree::build(&source.bytes)?;
+/// 22, with the source's label and the float that is too large; the rest was judged when it was parsed.
+pub fn build_mascon_tree(source: &MasconSource) -> Result<(Vec<u8>, usize, usize), Labelled> {
+    let built = crate::Tree::build(&source.bytes);
+    let tree = built.map_err(|error| error.labelled(&source.label))?;
     let (nodes, order) = (tree.node_count(), tree.order_count());
     Ok((tree.into_bytes(), nodes, order))
 }

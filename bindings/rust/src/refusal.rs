@@ -1,3 +1,4 @@
+use crate::floats::{first_too_large, TreeFloat};
 use crate::twice::{repeated, Twice};
 use std::error::Error;
 use std::fmt;
@@ -114,6 +115,8 @@ refusals! {
         "masses, density or cell volume pass 3.4e38, or kernels cancel so that the scale does: look at weights and target mass";
     CellTwice = 21, "two records name one cell",
         "fold the file (`mascon fold IN -o OUT`, `Model::fold`): the later record of a cell counts; `mascon check` names the records";
+    FloatTooLarge = 22, "a float of the tree is too large",
+        "masses of a node add up to 3.4e38 kg or more, or nearly cancel so that their centre lies that far away: make the heaviest ones smaller; `mascon check` names the nodes";
 }
 
 impl Refusal {
@@ -156,7 +159,8 @@ impl From<Refusal> for String {
     }
 }
 
-/// Why a point file was not opened or built: the refusal and, where two records name one cell (21), these.
+/// Why a point file was not opened or built: the refusal and, where two records name one cell (21), these; where a float of its tree is
+/// too large (22), this one.
 ///
 /// ```
 /// use mascon::{shapes, Model, Refusal};
@@ -171,32 +175,48 @@ impl From<Refusal> for String {
 ///     "refused 21: two records name one cell: records 0 and 1 both name cell (0, 0, 0); fold the file to keep the later one"
 /// );
 /// ```
-#[derive(Clone, Copy, PartialEq, Eq)]
+#[derive(Clone, Copy, PartialEq)]
 pub struct OpenError {
     /// Why.
     pub refusal: Refusal,
     /// Of cause 21 the first record that names a cell again, and the one that names it first; else none.
     pub twice: Option<Twice>,
+    /// Of cause 22 the first float in preorder that is too large; else none.
+    pub too_large: Option<TreeFloat>,
 }
 
 impl OpenError {
-    /// With the records of the file that was refused.
+    /// With the records or the float of the file that was refused.
     pub(crate) fn of(refusal: Refusal, file: &[u8]) -> OpenError {
-        let twice = match refusal {
-            Refusal::CellTwice => repeated(file).next(),
-            _ => None,
-        };
-        OpenError { refusal, twice }
+        let of_cause = |cause: Refusal| (refusal == cause).then_some(file);
+        OpenError {
+            refusal,
+            twice: of_cause(Refusal::CellTwice).and_then(|file| repeated(file).next()),
+            too_large: of_cause(Refusal::FloatTooLarge).and_then(first_too_large),
+        }
+    }
+
+    /// The same of what has this label.
+    pub(crate) fn labelled(self, label: &str) -> Labelled {
+        Labelled {
+            label: label.to_string(),
+            refusal: self.refusal,
+            twice: self.twice,
+            too_large: self.too_large,
+        }
     }
 }
 
 impl fmt::Display for OpenError {
     fn fmt(&self, f: &mut fmt::Formatter<'_>) -> fmt::Result {
         write!(f, "{}", self.refusal)?;
-        match self.twice {
-            Some(twice) => write!(f, ": {twice}; fold the file to keep the later one"),
-            None => Ok(()),
+        if let Some(twice) = self.twice {
+            write!(f, ": {twice}; fold the file to keep the later one")?;
         }
+        if let Some(float) = self.too_large {
+            write!(f, ": {float}")?;
+        }
+        Ok(())
     }
 }
 
@@ -219,7 +239,7 @@ impl PartialEq<Refusal> for OpenError {
     }
 }
 
-/// Without the records.
+/// Without the records or the float.
 impl From<OpenError> for Refusal {
     fn from(error: OpenError) -> Refusal {
         error.refusal
@@ -238,7 +258,7 @@ impl From<OpenError> for String {
 /// let refused = mascon::parse_mascon_bytes(&[], "runtime Mascon source").unwrap_err();
 /// assert_eq!(refused.to_string(), "runtime Mascon source: refused 1: file under 64 bytes");
 /// ```
-#[derive(Clone, PartialEq, Eq)]
+#[derive(Clone, PartialEq)]
 pub struct Labelled {
     /// What was refused.
     pub label: String,
@@ -246,12 +266,18 @@ pub struct Labelled {
     pub refusal: Refusal,
     /// As in [`OpenError`].
     pub twice: Option<Twice>,
+    /// As in [`OpenError`].
+    pub too_large: Option<TreeFloat>,
 }
 
 impl fmt::Display for Labelled {
     fn fmt(&self, f: &mut fmt::Formatter<'_>) -> fmt::Result {
-        let Labelled { refusal, twice, .. } = *self;
-        write!(f, "{}: {}", self.label, OpenError { refusal, twice })
+        let error = OpenError {
+            refusal: self.refusal,
+            twice: self.twice,
+            too_large: self.too_large,
+        };
+        write!(f, "{}: {error}", self.label)
     }
 }
 

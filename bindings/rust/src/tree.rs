@@ -1,5 +1,5 @@
 use crate::check::{check_tree, Fault};
-use crate::points::{float_at, floats_at, grid_of, records_of, scratch, word_at, HEADER};
+use crate::points::{float_at, floats_at, grid_of, judged, records_of, scratch, word_at, HEADER};
 use crate::{cells, ffi, OpenError, Refusal};
 use std::io;
 use std::path::Path;
@@ -92,7 +92,7 @@ impl Tree {
     /// Builds the tree of a point file, in working form or not. The order names points by their place in that file.
     ///
     /// # Errors
-    /// 1 to 7, 21.
+    /// 1 to 7; 21, with the records; 22, with the float that is too large.
     pub fn build(file: &[u8]) -> Result<Tree, OpenError> {
         // At most one order word and one node to a cell.
         let most = grid_of(file).map_or(0, cells);
@@ -119,7 +119,15 @@ impl Tree {
         }
     }
 
-    /// Takes up a tree file, after judging header, boxes, links, counts, leaf ranges and order.
+    /// Judges a point file as [`build`](Tree::build) does, without writing the tree.
+    ///
+    /// # Errors
+    /// Those of build.
+    pub fn judge(file: &[u8]) -> Result<(), OpenError> {
+        judged(file, |scratch| ffi::build(file, scratch, &mut []))
+    }
+
+    /// Takes up a tree file, after judging header, boxes, links, counts, leaf ranges and order, and that every float is finite.
     ///
     /// # Errors
     /// The first fault, with its place.

@@ -3,9 +3,11 @@ ghost use mathlib.Core.Path.{_≡_};
 ghost use mathlib.Core.Bool.{false};
 ghost use Prim.Native.Nat.{_+_, _≤_, _<_};
 ghost use lib.ListN.{length, replicate};
-ghost use lib.Ieee.{binary64, ofBits, toBits, nanBits};
-ghost use Rattle.float.specs.Narrow.{narrow64};
+ghost use lib.Ieee.{binary64, ofBits, nanBits};
+ghost use Rattle.binary.specs.Words.{Narrowing};
 ghost use Rattle.rym1.specs.Bytes.{word16, word32, word64, le16, le32, le64, wordsBytes, splice};
+use float::Narrowed;
+use float::pattern::f32_to_bits;
 
 // A byte as a wider number: `wide(s[i])` asks only for the index.
 fn wide(x: u8) -> u32
@@ -93,13 +95,21 @@ pub fn out_u64(s: &mut [u8], at: usize, value: u64)
     out_u32(s, at + 4, high as u32);
 }
 
-// The pattern of the binary32 nearest to the value. A NaN gives 0x7fc00000.
-pub fn out_f32(s: &mut [u8], at: usize, value: f64)
-    requires { ⌜ at + 4 ≤ length (now s) ⌝ }
-    ensures { λ _. ⌜ now (s .exit) ≡ splice (now (s .entry)) at (le32 (narrow64 (toBits binary64 value))) ⌝ }
+// The words of some numbers, up to the first that is too large. Answers whether there is none.
+pub fn narrow_all(xs: &[f64], words: &mut [u32]) -> bool
+    requires { ⌜ length (now words) ≡ length (now xs) ⌝ }
+    ensures { λ r. ⌜ Narrowing (now (xs .entry)) r (now (words .exit)) ⌝ }
 {
-    let pattern = float::narrow(value);
-    out_u32(s, at, pattern);
+    let mut i: usize = 0;
+    while i < xs.len() {
+        let narrowed = float::narrow(xs[i]);
+        let Narrowed::Finite(v) = narrowed else {
+            return false;
+        };
+        words[i] = f32_to_bits(v);
+        i += 1;
+    }
+    true
 }
 
 // Sixteen words, from byte 0 on.

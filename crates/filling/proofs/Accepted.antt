@@ -8,6 +8,7 @@ use lib.ListN.{length, getD, drop, replicate, length-append}
 use lib.Dec.{eqb, ltb}
 use lib.Ieee.{Float, binary32, ofBits, lt}
 use borrow.Author.Tests.{ltb-false, eqb-false, not-false, le-leb}
+use Rattle.float.specs.Narrow.{floatWord}
 use Rattle.rym1.specs.Bytes.{word, le, wordsBytes, splice}
 use Rattle.rym1.specs.Causes.{when, Outcome, outcome, refuse}
 use Rattle.rym1.specs.File.{grid, count, density, volume, scale, boxMin, boxMax, pointsAt, points, pointsBytes, size, cube, finite, allFinite, headerFloats, below, pointsCause, fileCause, working, workCause}
@@ -21,8 +22,8 @@ use Rattle.filling.specs.declared.Triangle.{Triangle}
 use Rattle.filling.specs.declared.Frame.{Frame}
 use Rattle.filling.specs.Inside.{isInside, testBox}
 use Rattle.filling.specs.Frame.{middle}
-use Rattle.filling.specs.Fill.{Task, narrowed, capacity, innerFrom, inner, frameOf, cellsOf, recordOf, recordsOf, measures, corners, rawSums, headerWords, fileBytes}
-use Rattle.filling.specs.Fill.{flat, boxFlat, massesFinite, floatsFinite, listsWrong, fillCause, cleared, filled, fill}
+use Rattle.filling.specs.Fill.{Task, capacity, innerFrom, inner, frameOf, cellsOf, recordOf, recordsOf, measures, corners, rawSums, headerWords, fileBytes}
+use Rattle.filling.specs.Fill.{belowNarrowed, flat, boxFlat, massesFinite, floatsFinite, listsWrong, fillCause, cleared, filled, fill}
 
 -- ---- words and floats on end
 
@@ -184,9 +185,9 @@ module _ (t : Task) (floats : ℕ) (out : List ℕ) where
 
 -- ---- the file
 
-wide : (min max : Float) → flat min max ≡ false → lt (ofBits binary32 (narrowed min)) (ofBits binary32 (narrowed max)) ≡ true
-unfolding flat
-wide min max e = not-false _ e
+wide : (min max : Float) → flat min max ≡ false → lt (ofBits binary32 (floatWord min)) (ofBits binary32 (floatWord max)) ≡ true
+unfolding flat belowNarrowed
+wide min max e = and-true-r (finite (floatWord max)) _ (and-true-r (finite (floatWord min)) _ (not-false _ e))
 
 module _ (t : Task) (out : List ℕ) (done : Outcome (List ℕ)) (w : Written t out done) where
   header-long : length (wordsBytes (headerWords t)) ≡ 64

@@ -4,8 +4,8 @@ use mathlib.Core.Bool.{Bool, true, cond, not, _&&_, _||_}
 use mathlib.Core.List.{List, [], _∷_, _++_}
 use lib.ListN.{length, replicate}
 use lib.Dec.{eqb, ltb}
-use lib.Ieee.{Float, binary32, binary64, mul, lt, ofBits, toBits}
-use Rattle.float.specs.Narrow.{narrow64}
+use lib.Ieee.{Float, binary32, mul, lt, ofBits, toBits}
+use Rattle.float.specs.Narrow.{floatWord}
 use Rattle.float.specs.Number.{zero64, one64, tiny, abs}
 use Rattle.rym1.specs.declared.Point.{Point}
 use Rattle.rym1.specs.Bytes.{wordsBytes, splice}
@@ -32,10 +32,6 @@ pub record Task : Type 0 where
 
 abbrev pub task : ℕ → List ℕ → List ℕ → List ℕ → Float → Float → Task
 task g m c e target density = record { grid = g; mesh = m; cauchy = c; elliptic = e; target = target; density = density }
-
--- the binary32 pattern that a number is written as
-unfoldable pub narrowed : Float → ℕ
-narrowed x = narrow64 (toBits binary64 x)
 
 -- half the cells, rounded up
 unfoldable pub capacity : ℕ → ℕ
@@ -85,7 +81,7 @@ scaleBy t ks = scaleOf (t .target) (rawOf t ks)
 
 -- a mass as it is written: mass and scale narrowed, and their product
 unfoldable pub writtenMass : Task → List ℕ → ℕ → ℕ
-writtenMass t ks c = product (narrowed (massOf (frameOf t) (t .grid) (kernels ks) c)) (narrowed (scaleBy t ks))
+writtenMass t ks c = product (floatWord (massOf (frameOf t) (t .grid) (kernels ks) c)) (floatWord (scaleBy t ks))
 
 unfoldable pub recordOf : Task → ℕ → Point
 recordOf t c = cellPoint (t .grid) c (record { cauchy = writtenMass t (t .cauchy) c; elliptic = writtenMass t (t .elliptic) c })
@@ -96,21 +92,21 @@ recordsOf t (c ∷ cs) = recordOf t c ∷ recordsOf t cs
 
 -- the floats at 16: density, volume, Cauchy scale
 unfoldable pub measures : Task → List ℕ
-measures t = narrowed (t .density) ∷ narrowed (frameOf t .volume) ∷ narrowed (scaleBy t (t .cauchy)) ∷ []
+measures t = floatWord (t .density) ∷ floatWord (frameOf t .volume) ∷ floatWord (scaleBy t (t .cauchy)) ∷ []
 
 -- those at 32: the box, and the raw sums
 unfoldable pub corners : Frame → List ℕ
 corners f =
-    narrowed (f .min .x)
-    ∷ narrowed (f .min .y)
-    ∷ narrowed (f .min .z)
-    ∷ narrowed (f .max .x)
-    ∷ narrowed (f .max .y)
-    ∷ narrowed (f .max .z)
+    floatWord (f .min .x)
+    ∷ floatWord (f .min .y)
+    ∷ floatWord (f .min .z)
+    ∷ floatWord (f .max .x)
+    ∷ floatWord (f .max .y)
+    ∷ floatWord (f .max .z)
     ∷ []
 
 unfoldable pub rawSums : Task → List ℕ
-rawSums t = narrowed (rawOf t (t .cauchy)) ∷ narrowed (rawOf t (t .elliptic)) ∷ []
+rawSums t = floatWord (rawOf t (t .cauchy)) ∷ floatWord (rawOf t (t .elliptic)) ∷ []
 
 unfoldable pub headerWords : Task → List ℕ
 headerWords t =
@@ -122,9 +118,12 @@ fileBytes t = wordsBytes (headerWords t) ++ pointsBytes (recordsOf t (cellsOf t)
 
 -- ---- causes
 
--- 19: the box, narrowed, has min not below max on an axis
+-- 19: the box, narrowed, has min not below max on an axis; what is too large is below nothing, and nothing is below it
+unfoldable pub belowNarrowed : ℕ → ℕ → Bool
+belowNarrowed a b = finite a && (finite b && lt (ofBits binary32 a) (ofBits binary32 b))
+
 unfoldable pub flat : Float → Float → Bool
-flat min max = not (lt (ofBits binary32 (narrowed min)) (ofBits binary32 (narrowed max)))
+flat min max = not (belowNarrowed (floatWord min) (floatWord max))
 
 unfoldable pub boxFlat : Frame → Bool
 boxFlat f = flat (f .min .x) (f .max .x) || (flat (f .min .y) (f .max .y) || flat (f .min .z) (f .max .z))

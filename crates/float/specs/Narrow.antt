@@ -1,9 +1,14 @@
 -- Narrowing of a bit pattern, for any lengths: from ew bits of exponent and fw of fraction to en and fn. Definitions only.
-use Prim.Native.Nat.{ℕ, _+_, _-_, _*_, _^_, min}
-use mathlib.Core.Bool.{cond}
-use lib.Dec.{eqb}
-use lib.Ieee.{Float, nan, inf, fin, binary32, up, down, round}
+use Prim.Native.Nat.{ℕ, _+_, _-_, _*_, _%_, _^_, _<_, min}
+use mathlib.Core.Path.{_≡_}
+use mathlib.Core.Bool.{Bool, true, false, not, cond, _||_}
+use mathlib.Core.List.{List, [], _∷_}
+use lib.Dec.{eqb, leb}
+use lib.Ieee.{Float, nan, inf, fin, binary32, binary64, up, down, round, ofBits, toBits}
+use lib.Ieee.Scale.{finite}
 use lib.Ieee.Nearest.{closest}
+use Rattle.float.specs.declared.Narrowed.{Narrowed}
+use Rattle.float.specs.declared.Narrowed.the-variants.{Finite, TooLarge}
 use Rattle.float.specs.Layout.{bias, full, infinity, quiet, signField, expField, fracField, digitsOf}
 
 -- The narrow magnitude bits for a finite wide pattern's exponent field x and fraction t. `-` stops at 0.
@@ -34,3 +39,44 @@ unfolding round
 narrowed nan = nan
 narrowed (inf s) = inf s
 narrowed (fin s m e) = round binary32 s (m * up e) (down e)
+
+-- ---- the answer: a finite float, or too large
+
+-- For any lengths: an infinity, a NaN, or what rounds to an infinity. Float's Large says from which magnitude on.
+unfoldable pub tooLarge : ℕ → ℕ → ℕ → ℕ → ℕ → Bool
+tooLarge ew fw en fn b = leb (infinity en fn) (narrow ew fw en fn b % 2 ^ (en + fn))
+
+unfoldable pub narrowing : Float → Narrowed
+narrowing x = cond (finite (narrowed x)) (Finite (narrowed x)) TooLarge
+
+unfoldable pub isLarge : Narrowed → Bool
+isLarge (Finite v) = false
+isLarge TooLarge = true
+
+-- as one number: the pattern of a finite float, 2^32 for too large
+unfoldable pub narrowNumber : Narrowed → ℕ
+narrowNumber (Finite v) = toBits binary32 v
+narrowNumber TooLarge = 4294967296
+
+-- ---- as they are written
+
+-- the binary32 pattern of a number that is not too large
+unfoldable pub floatWord : Float → ℕ
+floatWord x = narrow64 (toBits binary64 x)
+
+unfoldable pub floatWords : List Float → List ℕ
+floatWords [] = []
+floatWords (x ∷ xs) = floatWord x ∷ floatWords xs
+
+-- one of them is too large
+unfoldable pub anyLarge : List Float → Bool
+anyLarge [] = false
+anyLarge (x ∷ xs) = isLarge (narrowing x) || anyLarge xs
+
+-- what the code's answer r says of x: it is narrowing's; a finite one is the float of the word that is written, and that word is finite exactly then
+pub record Told (x : Float) (r : Narrowed) : Type 0 where
+  pub is : r ≡ narrowing x
+  pub written : (v : Float) → r ≡ Finite v → toBits binary32 v ≡ floatWord x
+  pub value : (v : Float) → r ≡ Finite v → ofBits binary32 (floatWord x) ≡ v
+  pub word : floatWord x < 4294967296
+  pub tells : finite (ofBits binary32 (floatWord x)) ≡ not (isLarge r)

@@ -5,9 +5,9 @@ pub mod pattern;
 
 ghost use mathlib.Core.Path.{_≡_};
 ghost use Prim.Native.Nat.{_^_, _<_};
-ghost use lib.Ieee.{binary64, toBits};
 ghost use lib.Ieee.Nearest.{closest};
-ghost use Rattle.float.specs.Narrow.{narrowFinite, narrow64, narrowed};
+ghost use Rattle.float.specs.Narrow.{narrowFinite, narrow64, Told};
+use pattern::is_finite32;
 
 // m / 2^d to the nearest whole number, and a tie to the even one.
 fn nearest_shift(m: u64, d: u64) -> u64
@@ -53,7 +53,7 @@ fn narrow_finite(x: u64, t: u64) -> u64
 }
 
 // A binary64's pattern, a NaN's too, to the pattern of the nearest binary32.
-pub fn narrow_bits(b: u64) -> u32
+fn narrow_bits(b: u64) -> u32
     ensures { λ r. ⌜ r ≡ narrow64 b ⌝ }
 {
     let sign: u64 = (b >> 63) * 0x8000_0000;
@@ -68,22 +68,22 @@ pub fn narrow_bits(b: u64) -> u32
     (sign + narrow_finite(x, t)) as u32
 }
 
-// The pattern of the binary32 nearest to x. A NaN gives 0x7fc00000.
-pub fn narrow(x: f64) -> u32
-    ensures { λ r. ⌜ r ≡ narrow64 (toBits binary64 x) ⌝ }
-{
-    if x != x {
-        return 0x7fc0_0000;
-    }
-    narrow_bits(f64::to_bits(x))
+// What narrowing answers: a finite binary32, or that the number is too large for one. A NaN is too large.
+pub enum Narrowed {
+    Finite(f32),
+    TooLarge,
 }
 
-// The binary32 nearest to x.
-pub fn narrow_f32(x: f64) -> f32
-    ensures { λ r. ⌜ r ≡ narrowed x ⌝ }
+// The binary32 nearest to x, if it is finite; its pattern is then the word that is written.
+pub fn narrow(x: f64) -> Narrowed
+    ensures { λ r. ⌜ Told x r ⌝ }
 {
     if x != x {
-        return 0.0 / 0.0;
+        return Narrowed::TooLarge;
     }
-    f32::from_bits(narrow_bits(f64::to_bits(x)))
+    let pattern = narrow_bits(f64::to_bits(x));
+    if !is_finite32(pattern) {
+        return Narrowed::TooLarge;
+    }
+    Narrowed::Finite(f32::from_bits(pattern))
 }

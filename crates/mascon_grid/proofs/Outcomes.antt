@@ -1,36 +1,39 @@
 -- What fill answers and leaves, way by way. Assumes nothing.
 use Prim.Native.Nat.{ℕ, _+_, _*_, _/_, _≤_, _<_}
 use mathlib.Core.Path.{_≡_, refl, sym, ap, _∙_, subst}
-use mathlib.Core.Bool.{Bool, true, false, cond, _&&_, true≢false}
-use mathlib.Core.List.{List, _++_}
+use mathlib.Core.Bool.{Bool, true, false, not, cond, _&&_, true≢false}
+use mathlib.Core.List.{List, [], _∷_, _++_}
 use native.Mathlib.Omega.{arith}
 use lib.ListN.{length, drop, replicate, length-append}
 use lib.Dec.{ltb}
 use lib.Ieee.{Float}
-use borrow.Author.Tests.{lt-ltb, le-ltb, eq-eqb, ne-eqb, ltb-false}
-use Rattle.rym1.specs.declared.Cause.the-variants.{GridOutside, ListWrong, ScratchShort, OutputShort, BoxFlat, CapacityExceeded}
+use borrow.Author.Tests.{lt-ltb, le-ltb, eq-eqb, ne-eqb, ltb-false, not-true, not-false}
+use Rattle.float.specs.Narrow.{floatWord, floatWords}
+use Rattle.float.specs.Number.{zero64, one64}
+use Rattle.rym1.specs.declared.Cause.the-variants.{GridOutside, ListWrong, ScratchShort, OutputShort, BoxFlat, CapacityExceeded, FloatNotFinite}
 use Rattle.rym1.specs.declared.Answer.{Answer}
 use Rattle.rym1.specs.declared.Answer.the-variants.{Refused}
 use Rattle.rym1.specs.declared.Point.{Point}
 use Rattle.rym1.specs.Bytes.{splice, wordsBytes}
 use Rattle.rym1.specs.Causes.{number, told, when, first, Outcome, outcome, refuse}
-use Rattle.rym1.specs.File.{size, allFinite, pointsBytes}
+use Rattle.rym1.specs.File.{size, finite, allFinite, pointsBytes}
 use Rattle.rym1.proofs.Causes.{or-false-l}
-use Rattle.rym1.proofs.Bytes.{length-splice, drop-splice}
+use Rattle.rym1.proofs.Bytes.{drop-splice}
+use Rattle.rym1.proofs.Points.{AllFit}
 use Rattle.filling.specs.declared.Frame.{Frame}
 use Rattle.filling.specs.Lists.{mesh, kernels, meshWrong}
 use Rattle.filling.specs.Inside.{bounds}
 use Rattle.filling.specs.Frame.{frame}
-use Rattle.filling.specs.Fill.{Task, task, narrowed, capacity, inner, frameOf, cellsOf, rawOf, scaleBy, recordsOf, measures, corners, rawSums, headerWords, fileBytes}
+use Rattle.filling.specs.Fill.{Task, task, capacity, inner, frameOf, cellsOf, rawFrom, rawOf, scaleOf, scaleBy, recordsOf, measures, corners, rawSums, headerWords, fileBytes}
 use Rattle.filling.specs.Fill.{massesFinite, floatsFinite, boxFlat, listsWrong, fillCause, cleared, filled, fill, early}
 use Rattle.filling.proofs.Lists.{mesh-good}
 use Rattle.visit.specs.declared.Found.{Found}
 use Rattle.visit.specs.declared.Visit.{Visit}
 use Rattle.visit.specs.declared.Visit.the-variants.{Done, Full}
-use Rattle.visit.specs.Visited.{rawPoints, found, visited, Visiting, Ready}
-use Rattle.mascon_grid.specs.Scaled.{scaledPoints, headerOf, writtenPoints, finished}
+use Rattle.visit.specs.Visited.{rawPoint, rawPoints, found, visited, Visiting, Ready}
+use Rattle.mascon_grid.specs.Scaled.{scaledPoints, headerFloats, headerAround, headerOf, writtenPoints, allFine, finished}
 use Rattle.mascon_grid.proofs.Finished.{header-long, length-written}
-use Rattle.mascon_grid.proofs.Raw.{zero-finite, inner-fit, raw-long, raw-at, scaled-are}
+use Rattle.mascon_grid.proofs.Raw.{inner-fit, raw-long, raw-at, scaled-are, scaled-back, scale-back, scale-small, scale-none, one-finite}
 
 -- ---- what a visit's answer tells
 
@@ -43,12 +46,6 @@ done-tells true w v e = (cc, cc)
 done-tells false w v e = (refl, cc)
 
 -- ---- fill_frame: the visit's answer is Full, or its finds w; f is the task's frame
-
-and-comm : (a b : Bool) → (a && b) ≡ (b && a)
-and-comm true true = refl
-and-comm true false = refl
-and-comm false true = refl
-and-comm false false = refl
 
 -- a write over all of an earlier one
 over : (s : List ℕ) (at : ℕ) (u v : List ℕ) → at + length u ≤ length v → at ≤ length s → splice (splice s at u) 0 v ≡ splice s 0 v
@@ -69,6 +66,39 @@ visit-full t out out′ v same =
     let many : ltb (capacity (t .grid)) (length (cellsOf t)) ≡ true = full-tells _ _ (v .answer) in
     rw (many, same)
 
+-- ---- the elliptic scale: where every mass is finite it is too, and without a point it is 1
+
+implied : (s a b : Bool) → (b ≡ true → s ≡ true) → (s && (a && b)) ≡ (a && b)
+implied s true true h = rw (h refl)
+implied true true false h = refl
+implied false true false h = refl
+implied true false b h = refl
+implied false false b h = refl
+
+none-raw : (t : Task) → cellsOf t ≡ [] → rawOf t (t .elliptic) ≡ zero64
+unfolding rawOf rawFrom
+none-raw t e = ap (rawFrom (frameOf t) (t .grid) (kernels (t .elliptic)) zero64) e
+
+one-scale : (t : Task) → cellsOf t ≡ [] → scaleBy t (t .elliptic) ≡ one64
+unfolding scaleBy
+one-scale t e = ap (scaleOf (t .target)) (none-raw t e) ∙ scale-none (t .target)
+
+elliptic-fine : (t : Task) → massesFinite (recordsOf t (cellsOf t)) ≡ true → finite (floatWord (scaleBy t (t .elliptic))) ≡ true
+elliptic-fine t = go (cellsOf t) refl
+  where
+    k : ℕ
+    k = floatWord (scaleBy t (t .cauchy))
+
+    l : ℕ
+    l = floatWord (scaleBy t (t .elliptic))
+
+    go : (cs : List ℕ) → cellsOf t ≡ cs → massesFinite (recordsOf t cs) ≡ true → finite l ≡ true
+    go [] e h = ap (λ (x : Float). finite (floatWord x)) (one-scale t e) ∙ one-finite
+    go (c ∷ cs) e h =
+        scale-back k l (rawPoint (frameOf t) (t .grid) (kernels (t .cauchy)) (kernels (t .elliptic)) c) (rawPoints (frameOf t) (t .grid) (kernels (t .cauchy)) (kernels (t .elliptic)) cs)
+        (unfold scaleBy in scale-small (t .target) (rawOf t (t .elliptic)))
+        (unfold rawPoints in ap massesFinite (scaled-are t (c ∷ cs)) ∙ h)
+
 module _ (t : Task) (out out′ : List ℕ) (pos : 0 < t .grid) (few : t .grid ≤ 256) (room : size (capacity (t .grid)) ≤ length out) (w : Found)
     (v : Visits t out (Done w) out′) where
   cells-few : ltb (capacity (t .grid)) (length (cellsOf t)) ≡ false
@@ -87,64 +117,83 @@ module _ (t : Task) (out out′ : List ℕ) (pos : 0 < t .grid) (few : t .grid �
   unfolding size
   enough = omega (arith, ltb-false (capacity (t .grid)) (length (cellsOf t)) cells-few, room)
 
-  left : out′ ≡ splice out 64 (pointsBytes (raws t))
-  left = v .points (ltb-false (capacity (t .grid)) (length (cellsOf t)) cells-few)
+  large-is : w .large ≡ not (massesFinite (raws t))
+  unfolding found
+  large-is = ap (λ (d : Found). d .large) finds-are
+
+  fit : AllFit (raws t)
+  unfolding cellsOf
+  fit = inner-fit (frameOf t) (t .grid) (kernels (t .cauchy)) (kernels (t .elliptic)) pos few (mesh (t .mesh))
+
+  -- a mass that is too large is one that is not finite once scaled
+  visit-large : w .large ≡ true → length out′ ≡ length out → outcome 20 (replicate (length out′) 0) ≡ filled t out
+  unfolding filled floatsFinite cleared
+  visit-large e same =
+      let some : massesFinite (raws t) ≡ false = not-true (massesFinite (raws t)) (sym large-is ∙ e) in
+      rw (cells-few, none-finite (massesFinite (recordsOf t (cellsOf t))) refl some, and-false (allFinite (measures t ++ (corners (frameOf t) ++ rawSums t))), same)
+    where
+      none-finite : (b : Bool) → massesFinite (recordsOf t (cellsOf t)) ≡ b → massesFinite (raws t) ≡ false → massesFinite (recordsOf t (cellsOf t)) ≡ false
+      none-finite false e some = e
+      none-finite true e some =
+          absurd (true≢false (sym (scaled-back (floatWord (scaleBy t (t .cauchy))) (floatWord (scaleBy t (t .elliptic))) (raws t) fit (ap massesFinite (scaled-are t (cellsOf t)) ∙ e)) ∙ some))
+
+      and-false : (a : Bool) → (a && false) ≡ false
+      and-false true = refl
+      and-false false = refl
 
   bytes-long : length (pointsBytes (raws t)) ≡ 16 * length (cellsOf t)
   bytes-long = raw-long (frameOf t) (t .grid) (kernels (t .cauchy)) (kernels (t .elliptic)) (cellsOf t)
 
-  same-long : length out′ ≡ length out
-  same-long =
-      ap length left
-      ∙ length-splice out 64 (pointsBytes (raws t)) (omega (arith, bytes-long, enough))
+  -- every mass is finite
+  module _ (same : length out′ ≡ length out) (ok : w .large ≡ false) where
+    visit-room : 64 + 16 * w .count ≤ length out′
+    visit-room = omega (arith, count-is, same, enough)
 
-  visit-room : 64 + 16 * w .count ≤ length out′
-  visit-room = omega (arith, count-is, same-long, enough)
+    left : out′ ≡ splice out 64 (pointsBytes (raws t))
+    left = v .points (ltb-false (capacity (t .grid)) (length (cellsOf t)) cells-few) (not-false (massesFinite (raws t)) (sym large-is ∙ ok))
 
-  records-are : writtenPoints w (t .target) out′ ≡ recordsOf t (cellsOf t)
-  unfolding writtenPoints found scaleBy rawOf cellsOf
-  records-are =
-      let ks = kernels (t .cauchy) in
-      let es = kernels (t .elliptic) in
-      let f = frameOf t in
-      let fit = inner-fit f (t .grid) ks es pos few (mesh (t .mesh)) in
-      ap (λ (d : Found). writtenPoints d (t .target) out′) finds-are
-      ∙ ap (scaledPoints (narrowed (scaleBy t (t .cauchy))) (narrowed (scaleBy t (t .elliptic)))) (raw-at f (t .grid) ks es (cellsOf t) out out′ fit (omega (arith, enough)) left)
-      ∙ scaled-are t (cellsOf t)
+    records-are : writtenPoints w (t .target) out′ ≡ recordsOf t (cellsOf t)
+    unfolding writtenPoints found scaleBy rawOf cellsOf
+    records-are =
+        let ks = kernels (t .cauchy) in
+        let es = kernels (t .elliptic) in
+        let f = frameOf t in
+        ap (λ (d : Found). writtenPoints d (t .target) out′) finds-are
+        ∙ ap (scaledPoints (floatWord (scaleBy t (t .cauchy))) (floatWord (scaleBy t (t .elliptic)))) (raw-at f (t .grid) ks es (cellsOf t) out out′ fit (omega (arith, enough)) left)
+        ∙ scaled-are t (cellsOf t)
 
-  header-is : headerOf (t .grid) (frameOf t) w (t .target) (t .density) ≡ headerWords t
-  unfolding headerOf headerWords measures rawSums found scaleBy rawOf
-  header-is = ap (λ (d : Found). headerOf (t .grid) (frameOf t) d (t .target) (t .density)) finds-are
+    header-is : headerOf (t .grid) (frameOf t) w (t .target) (t .density) ≡ headerWords t
+    unfolding headerOf headerAround headerFloats floatWords headerWords measures corners rawSums found scaleBy rawOf
+    header-is = ap (λ (d : Found). headerOf (t .grid) (frameOf t) d (t .target) (t .density)) finds-are
 
-  floats-are : allFinite (drop 4 (headerOf (t .grid) (frameOf t) w (t .target) (t .density))) ≡ allFinite (measures t ++ (corners (frameOf t) ++ rawSums t))
-  unfolding headerWords measures allFinite
-  floats-are = ap (λ (ws : List ℕ). allFinite (drop 4 ws)) header-is ∙ rw zero-finite
+    floats-are : allFinite (floatWords (headerFloats (frameOf t) w (t .target) (t .density))) ≡ allFinite (measures t ++ (corners (frameOf t) ++ rawSums t))
+    unfolding headerFloats floatWords measures corners rawSums found scaleBy rawOf
+    floats-are = ap (λ (d : Found). allFinite (floatWords (headerFloats (frameOf t) d (t .target) (t .density)))) finds-are
 
-  file-left : splice out′ 0 (wordsBytes (headerOf (t .grid) (frameOf t) w (t .target) (t .density)) ++ pointsBytes (writtenPoints w (t .target) out′)) ≡ splice out 0 (fileBytes t)
-  unfolding fileBytes
-  file-left =
-      let words = wordsBytes (headerOf (t .grid) (frameOf t) w (t .target) (t .density)) in
-      let records = pointsBytes (writtenPoints w (t .target) out′) in
-      let raw = pointsBytes (raws t) in
-      let long : length (words ++ records) ≡ 64 + 16 * length (cellsOf t) =
-      length-append words records
-      ∙ omega (arith, header-long (t .grid) (frameOf t) w (t .target) (t .density), length-written w (t .target) out′, count-is) in
-      ap (λ (l : List ℕ). splice l 0 (words ++ records)) left
-      ∙ over out 64 raw (words ++ records) (omega (arith, bytes-long, long)) (omega (arith, enough))
-      ∙ (λ i. splice out 0 (wordsBytes (header-is i) ++ pointsBytes (records-are i)))
+    -- the elliptic scale stands in no header: where every mass is finite it is too
+    fine-is : allFine (frameOf t) w (t .target) (t .density) out′ ≡ floatsFinite t
+    unfolding allFine floatsFinite
+    fine-is =
+        let scale : finite (floatWord (scaleOf (t .target) (w .elliptic))) ≡ finite (floatWord (scaleBy t (t .elliptic))) =
+        (unfold found scaleBy rawOf in ap (λ (d : Found). finite (floatWord (scaleOf (t .target) (d .elliptic)))) finds-are) in
+        rw (records-are, floats-are, scale) (implied (finite (floatWord (scaleBy t (t .elliptic)))) (allFinite (measures t ++ (corners (frameOf t) ++ rawSums t))) (massesFinite (recordsOf t (cellsOf t))) (elliptic-fine t))
 
-  visit-done : finished (t .grid) (frameOf t) w (t .target) (t .density) out′ ≡ filled t out
-  unfolding finished filled floatsFinite cleared
-  visit-done =
-      rw (
-        cells-few,
-        file-left,
-        records-are,
-        floats-are,
-        count-is,
-        same-long,
-        and-comm (massesFinite (recordsOf t (cellsOf t))) (allFinite (measures t ++ (corners (frameOf t) ++ rawSums t))),
-      )
+    file-left : splice out′ 0 (wordsBytes (headerOf (t .grid) (frameOf t) w (t .target) (t .density)) ++ pointsBytes (writtenPoints w (t .target) out′)) ≡ splice out 0 (fileBytes t)
+    unfolding fileBytes
+    file-left =
+        let words = wordsBytes (headerOf (t .grid) (frameOf t) w (t .target) (t .density)) in
+        let records = pointsBytes (writtenPoints w (t .target) out′) in
+        let raw = pointsBytes (raws t) in
+        let long : length (words ++ records) ≡ 64 + 16 * length (cellsOf t) =
+        length-append words records
+        ∙ omega (arith, header-long (t .grid) (frameOf t) w (t .target) (t .density), length-written w (t .target) out′, count-is) in
+        ap (λ (l : List ℕ). splice l 0 (words ++ records)) left
+        ∙ over out 64 raw (words ++ records) (omega (arith, bytes-long, long)) (omega (arith, enough))
+        ∙ (λ i. splice out 0 (wordsBytes (header-is i) ++ pointsBytes (records-are i)))
+
+    visit-done : finished (t .grid) (frameOf t) w (t .target) (t .density) out′ ≡ filled t out
+    unfolding finished filled cleared
+    visit-done = rw (cells-few, file-left, fine-is, count-is, same)
 
 -- the same, as the code has them: m, c and e are the lists' bytes, r what the visit answered
 module _ (g : ℕ) (m c e : List ℕ) (target density : Float) (f : Frame) (ef : f ≡ frame (bounds (mesh m)) g) (out out′ : List ℕ) {r : Visit}
@@ -159,16 +208,23 @@ module _ (g : ℕ) (m c e : List ℕ) (target density : Float) (f : Frame) (ef :
   unfolding told number
   way-18 er same a out₁ ea e₁ = (λ i. outcome (told (ea i)) (e₁ i)) ∙ visit-full (task g m c e target density) out out′ (of-task Full er) same
 
-  module _ {s : List Float} (ok : Ready m g s out) (w : Found) (er : r ≡ Done w) where
-    pub finds-room : 64 + 16 * w .count ≤ length out′
-    finds-room = visit-room (task g m c e target density) out out′ (ok .some) (ok .few) (ok .room) w (of-task (Done w) er)
+  module _ {s : List Float} (ok : Ready m g s out) (w : Found) (er : r ≡ Done w) (same : length out′ ≡ length out) where
+    pub way-large : w .large ≡ true → (a : Answer) (out₁ : List ℕ) → a ≡ Refused FloatNotFinite → out₁ ≡ replicate (length out′) 0
+        → outcome (told a) out₁ ≡ filled (task g m c e target density) out
+    unfolding told number
+    way-large h a out₁ ea e₁ =
+        (λ i. outcome (told (ea i)) (e₁ i)) ∙ visit-large (task g m c e target density) out out′ (ok .some) (ok .few) (ok .room) w (of-task (Done w) er) h same
 
-    pub way-finished : {done : Outcome (List ℕ)} → done ≡ finished g f w target density out′ → done ≡ filled (task g m c e target density) out
-    unfolding frameOf
-    way-finished is =
-        is
-        ∙ ap (λ (h : Frame). finished g h w target density out′) ef
-        ∙ visit-done (task g m c e target density) out out′ (ok .some) (ok .few) (ok .room) w (of-task (Done w) er)
+    module _ (fine : w .large ≡ false) where
+      pub finds-room : 64 + 16 * w .count ≤ length out′
+      finds-room = visit-room (task g m c e target density) out out′ (ok .some) (ok .few) (ok .room) w (of-task (Done w) er) same fine
+
+      pub way-finished : {done : Outcome (List ℕ)} → done ≡ finished g f w target density out′ → done ≡ filled (task g m c e target density) out
+      unfolding frameOf
+      way-finished is =
+          is
+          ∙ ap (λ (h : Frame). finished g h w target density out′) ef
+          ∙ visit-done (task g m c e target density) out out′ (ok .some) (ok .few) (ok .room) w (of-task (Done w) er) same fine
 
 -- ---- build_mascon
 

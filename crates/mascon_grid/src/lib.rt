@@ -18,11 +18,13 @@ use accelerator::padded;
 use density::kernels_wrong;
 use filling::Bounds;
 use filling::Frame;
+use float::Narrowed;
+use float::pattern::f32_to_bits;
 use model::mesh_wrong;
 use model::up_to;
 use rym1::Answer;
 use rym1::Cause;
-use scaling::floats_finite;
+use scaling::header_floats;
 use scaling::header_of;
 use scaling::scale_masses;
 use scaling::scale_of;
@@ -66,15 +68,20 @@ fn finish(out: &mut [u8], g: u32, f: Frame, w: Found, target: f64, density: f64)
     ensures { λ r. ⌜ outcome (told r) (now (out .exit)) ≡ finished g f w target density (now (out .entry)) ⌝ }
 {
     let count = w.count;
-    let k = float::narrow(scale_of(target, w.cauchy));
-    let l = float::narrow(scale_of(target, w.elliptic));
-    let header = header_of(g, f, w, target, density);
-    if !scale_masses(out, count, k, l) {
+    let narrowed = float::narrow(scale_of(target, w.elliptic));
+    let Narrowed::Finite(l) = narrowed else {
+        return clear_refused(out, Cause::FloatNotFinite);
+    };
+    let floats = header_floats(f, w, target, density);
+    let mut words = [0; 11];
+    if !binary::narrow_all(&floats, &mut words) {
         return clear_refused(out, Cause::FloatNotFinite);
     }
-    if !floats_finite(header) {
+    // the header has the Cauchy scale
+    if !scale_masses(out, count, words[2], f32_to_bits(l)) {
         return clear_refused(out, Cause::FloatNotFinite);
     }
+    let header = header_of(g, count, words);
     binary::out_words(out, header);
     let length = 64 + 16 * (count as u64);
     Answer::Length(length)
@@ -102,6 +109,9 @@ fn fill_frame(
     let Visit::Done(w) = visit else {
         return clear_refused(out, Cause::CapacityExceeded);
     };
+    if w.large {
+        return clear_refused(out, Cause::FloatNotFinite);
+    }
     finish(out, g, f, w, target, density)
 }
 

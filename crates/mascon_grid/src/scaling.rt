@@ -1,14 +1,14 @@
 // The masses scaled in place, as binary32 products, and judged; the header's floats.
 ghost use mathlib.Core.Path.{_≡_};
-ghost use mathlib.Core.Bool.{_&&_};
+ghost use mathlib.Core.Bool.{true};
 ghost use Prim.Native.Nat.{_+_, _*_, _≤_};
-ghost use lib.ListN.{length, drop};
+ghost use lib.ListN.{length};
 ghost use Rattle.rym1.specs.Bytes.{splice};
-ghost use Rattle.rym1.specs.File.{finite, allFinite, pointsAt, pointsBytes};
+ghost use Rattle.rym1.specs.File.{pointsAt, pointsBytes};
 ghost use Rattle.filling.specs.Fill.{product, scaleOf, massesFinite};
-ghost use Rattle.mascon_grid.specs.Scaled.{scaledPoint, scaledPoints, headerOf};
+ghost use Rattle.visit.specs.Visited.{fine};
+ghost use Rattle.mascon_grid.specs.Scaled.{scaledPoint, scaledPoints, headerFloats, headerAround};
 use filling::Frame;
-use float::narrow;
 use float::number::abs;
 use float::pattern::f32_from_bits;
 use float::pattern::f32_to_bits;
@@ -54,72 +54,75 @@ fn scaled_point(p: Point, k: u32, l: u32) -> Point
     }
 }
 
-// Whether all masses so far, and those of the record, are finite.
-fn still_finite(all: bool, p: Point) -> bool
-    ensures { λ r. ⌜ r ≡ (all && (finite (p .cauchy) && finite (p .elliptic))) ⌝ }
+// Whether both masses of the record are finite.
+fn are_fine(p: Point) -> bool
+    ensures { λ r. ⌜ r ≡ fine p ⌝ }
 {
-    if !all {
-        return false;
-    }
     if !is_finite(p.cauchy) {
         return false;
     }
     is_finite(p.elliptic)
 }
 
-// Scales the first n records. Answers whether all masses are finite afterwards.
+// Scales the first n records, up to the first that has a mass that is not finite then: that one is not written. Answers whether there is none.
 pub fn scale_masses(out: &mut [u8], n: u32, k: u32, l: u32) -> bool
     requires { ⌜ 64 + 16 * n ≤ length (now out) ⌝ }
     ensures { λ r. ⌜ (r ≡ massesFinite (scaledPoints k l (pointsAt (now (out .entry)) 64 n)))
-        × (now (out .exit) ≡ splice (now (out .entry)) 64 (pointsBytes (scaledPoints k l (pointsAt (now (out .entry)) 64 n)))) ⌝ }
+        × (r ≡ true → now (out .exit) ≡ splice (now (out .entry)) 64 (pointsBytes (scaledPoints k l (pointsAt (now (out .entry)) 64 n)))) ⌝ }
 {
-    let mut all = true;
     let mut i: u32 = 0;
     while i < n {
         let at = 64 + 16 * (i as usize);
         let p = scaled_point(point_at(out, at), k, l);
+        if !are_fine(p) {
+            return false;
+        }
         out_point(out, at, p);
-        all = still_finite(all, p);
         i += 1;
     }
-    all
+    true
 }
 
-// The words of a filled file's header.
-pub fn header_of(g: u32, f: Frame, w: Found, target: f64, density: f64) -> [u32; 16]
-    ensures { λ r. ⌜ r ≡ headerOf g f w target density ⌝ }
+// The floats of a filled file's header, in its order.
+pub fn header_floats(f: Frame, w: Found, target: f64, density: f64) -> [f64; 11]
+    ensures { λ r. ⌜ r ≡ headerFloats f w target density ⌝ }
 {
     let scale = scale_of(target, w.cauchy);
+    [
+        density,
+        f.volume,
+        scale,
+        f.min.x,
+        f.min.y,
+        f.min.z,
+        f.max.x,
+        f.max.y,
+        f.max.z,
+        w.cauchy,
+        w.elliptic,
+    ]
+}
+
+// The header, with the words of its floats.
+pub fn header_of(g: u32, count: u32, w: [u32; 11]) -> [u32; 16]
+    ensures { λ r. ⌜ r ≡ headerAround g count w ⌝ }
+{
     [
         0x314d5952,
         1,
         g,
-        w.count,
-        narrow(density),
-        narrow(f.volume),
-        narrow(scale),
+        count,
+        w[0],
+        w[1],
+        w[2],
         0,
-        narrow(f.min.x),
-        narrow(f.min.y),
-        narrow(f.min.z),
-        narrow(f.max.x),
-        narrow(f.max.y),
-        narrow(f.max.z),
-        narrow(w.cauchy),
-        narrow(w.elliptic),
+        w[3],
+        w[4],
+        w[5],
+        w[6],
+        w[7],
+        w[8],
+        w[9],
+        w[10],
     ]
-}
-
-// Whether the header's floats are finite. The word at 28 is 0, which is.
-pub fn floats_finite(words: [u32; 16]) -> bool
-    ensures { λ r. ⌜ r ≡ allFinite (drop 4 words) ⌝ }
-{
-    let mut i: usize = 4;
-    while i < 16 {
-        if !is_finite(words[i]) {
-            return false;
-        }
-        i += 1;
-    }
-    true
 }

@@ -1,3 +1,4 @@
+pub mod Judging
 pub mod Counted
 pub mod Written
 pub mod Outcomes

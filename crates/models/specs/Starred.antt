@@ -1,11 +1,11 @@
--- The starred models of 01 as one table. For trees the files stand as words, the trees whole, as the original writes them; for edits as bytes; crossings as
+-- The starred models of 01 as one table, and K2's cases. For trees the files stand as words, the trees whole, as the original writes them; for edits as bytes; crossings as
 -- binary64 patterns.
 use Prim.Native.Nat.{ℕ}
 use mathlib.Core.List.{List, [], _∷_, _++_}
 use Rattle.register.specs.Register.{Call, put, remove, undo}
 
 pub data Row : Type 0 where
-  -- a binary64 pattern, and the binary32 pattern that it narrows to
+  -- a binary64 pattern, and the binary32 pattern that it narrows to; 2^32 where it is too large
   narrows : ℕ → ℕ → Row
   -- a point file and how many words of scratch are lent; the answer, node and order counts, and the tree
   builds : List ℕ → ℕ → ℕ → ℕ → ℕ → List ℕ → Row
@@ -41,7 +41,7 @@ table =
     narrows 0x3ff0000010000000 0x3f800000
     ∷ narrows 0x3ff0000030000000 0x3f800002
     ∷ narrows 0x36a8000000000000 0x00000002
-    ∷ narrows 0x47effffff0000000 0x7f800000
+    ∷ narrows 0x47effffff0000000 0x100000000
     -- g 1, n 0: one node, links −1
     ∷ builds (0x314d5952 ∷ 1 ∷ 1 ∷ 0 ∷ 0x4494c000 ∷ 0x3f000000 ∷ 0x40400000 ∷ 0 ∷ 0 ∷ 0 ∷ 0 ∷ 0x40000000 ∷ 0x40000000 ∷ 0x40000000 ∷ 0 ∷ 0 ∷ []) 1 144 1 0
     (0x314d5452 ∷ 2 ∷ 1 ∷ 0 ∷ 0x40400000 ∷ 0x4494c000 ∷ 0x3f000000 ∷ 0 ∷ 0 ∷ 0 ∷ 0 ∷ 0x40000000 ∷ 0x40000000 ∷ 0x40000000 ∷ 1 ∷ 0 ∷ 0x3f800000 ∷ 0x3f800000 ∷ 0x3f800000 ∷ 0x3f800000 ∷ 0 ∷ 0 ∷ 0xbf800000 ∷ 0xbf800000 ∷ 0x3f800000 ∷ 0x3f800000 ∷ 0x3f800000 ∷ 0 ∷ 0x3f800000 ∷ 0x3f800000 ∷ 0x3f800000 ∷ 0 ∷ 0x3f800000 ∷ 0x3f800000 ∷ 0x3f800000 ∷ 0 ∷ [])
@@ -59,6 +59,21 @@ table =
     (0x314d5452 ∷ 2 ∷ 4 ∷ 9 ∷ 0x40400000 ∷ 0x4494c000 ∷ 0x3f000000 ∷ 0 ∷ 0xbf800000 ∷ 0 ∷ 0x40000000 ∷ 0x40000000 ∷ 0x40c00000 ∷ 0x40b00000 ∷ 5 ∷ 0 ∷ 0x3f000000 ∷ 0x40400000 ∷ 0x40700000 ∷ 0x40400000 ∷ 0x42340000 ∷ 0x3fc00000 ∷ 0x3f800000 ∷ 0xbf800000 ∷ 0xbe844444 ∷ 0x40033333 ∷ 0x40415555 ∷ 0 ∷ 0xbf200000 ∷ 0x40a80000 ∷ 0x401c0000 ∷ 0 ∷ 0xbe955555 ∷ 0x3ff55555 ∷ 0x4034e38e ∷ 0x41100000 ∷ 0xbe800000 ∷ 0x40400000 ∷ 0x40700000 ∷ 0x40400000 ∷ 0x42340000 ∷ 0x3fc00000 ∷ 0x40000000 ∷ 0x40400000 ∷ 0xbe844444 ∷ 0x40033333 ∷ 0x40415555 ∷ 0 ∷ 0xbf200000 ∷ 0x40a80000 ∷ 0x401c0000 ∷ 0 ∷ 0xbe955555 ∷ 0x3ff55555 ∷ 0x4034e38e ∷ 0x41100000 ∷ 0xbe800000 ∷ 0x3fc00000 ∷ 0x40700000 ∷ 0x3fe00000 ∷ 0x42200000 ∷ 0 ∷ 0xbf800000 ∷ 0xbf800000 ∷ 0xbe59999a ∷ 0x3fd33333 ∷ 0x40460000 ∷ 0 ∷ 0xbe800000 ∷ 0x3fc00000 ∷ 0x40700000 ∷ 0x41000000 ∷ 0xbe800000 ∷ 0x3fc00000 ∷ 0x40380000 ∷ 0x41000000 ∷ 0xbe800000 ∷ 0x40900000 ∷ 0x40700000 ∷ 0x3fe00000 ∷ 0x40a00000 ∷ 0x3fc00000 ∷ 0xbf800000 ∷ 0xbf800000 ∷ 0xbf200000 ∷ 0x40a80000 ∷ 0x401c0000 ∷ 0x41000000 ∷ 0xbf200000 ∷ 0x40a80000 ∷ 0x401c0000 ∷ 0x3f800000 ∷ 0xbf200000 ∷ 0x40a80000 ∷ 0x401c0000 ∷ 0x3f800000 ∷ 0x3fa00000 ∷ 0x40400000 ∷ 0x40700000 ∷ 0x40400000 ∷ 0 ∷ 0 ∷ 0xbf800000 ∷ 0xbf800000 ∷ 0xbf200000 ∷ 0x3f400000 ∷ 0x401c0000 ∷ 0 ∷ 0xbf200000 ∷ 0x3f400000 ∷ 0x401c0000 ∷ 0 ∷ 0xbf200000 ∷ 0x3f400000 ∷ 0x401c0000 ∷ 0 ∷ 0 ∷ 1 ∷ 2 ∷ 3 ∷ 5 ∷ 6 ∷ 7 ∷ 8 ∷ 4 ∷ [])
     -- g 192, record (192, 5, 0): refused 6, though its slot 1,152 is that of (0, 6, 0)
     ∷ builds (0x314d5952 ∷ 1 ∷ 192 ∷ 1 ∷ 0x4494c000 ∷ 0x3f000000 ∷ 0x40400000 ∷ 0 ∷ 0xbf800000 ∷ 0 ∷ 0x40000000 ∷ 0x40000000 ∷ 0x40c00000 ∷ 0x40b00000 ∷ 0 ∷ 0 ∷ 0x000500c0 ∷ 0 ∷ 0x40400000 ∷ 0 ∷ []) 7077888 6 0 0 []
+    -- K2, not starred: two greatest masses, 22 with no room for a tree either
+    ∷ builds (0x314d5952 ∷ 1 ∷ 2 ∷ 2 ∷ 0x4494c000 ∷ 0x3f000000 ∷ 0x40400000 ∷ 0 ∷ 0 ∷ 0 ∷ 0 ∷ 0x40000000 ∷ 0x40000000 ∷ 0x40000000 ∷ 0 ∷ 0 ∷ 0 ∷ 0 ∷ 0x7f7fffff ∷ 0 ∷ 1 ∷ 0 ∷ 0x7f7fffff ∷ 0 ∷ []) 8 22 0 0 []
+    -- of one cell: 21 first
+    ∷ builds (0x314d5952 ∷ 1 ∷ 2 ∷ 2 ∷ 0x4494c000 ∷ 0x3f000000 ∷ 0x40400000 ∷ 0 ∷ 0 ∷ 0 ∷ 0 ∷ 0x40000000 ∷ 0x40000000 ∷ 0x40000000 ∷ 0 ∷ 0 ∷ 0 ∷ 0 ∷ 0x7f7fffff ∷ 0 ∷ 0 ∷ 0 ∷ 0x7f7fffff ∷ 0 ∷ []) 8 21 0 0 []
+    -- a sum of exactly 2^128 - 2^103, and one of 2^79 less
+    ∷ builds (0x314d5952 ∷ 1 ∷ 2 ∷ 2 ∷ 0x4494c000 ∷ 0x3f000000 ∷ 0x40400000 ∷ 0 ∷ 0 ∷ 0 ∷ 0 ∷ 0x40000000 ∷ 0x40000000 ∷ 0x40000000 ∷ 0 ∷ 0 ∷ 0 ∷ 0 ∷ 0 ∷ 0x7f7fffff ∷ 1 ∷ 0 ∷ 0 ∷ 0x73000000 ∷ []) 8 22 0 0 []
+    ∷ builds (0x314d5952 ∷ 1 ∷ 2 ∷ 2 ∷ 0x4494c000 ∷ 0x3f000000 ∷ 0x40400000 ∷ 0 ∷ 0 ∷ 0 ∷ 0 ∷ 0x40000000 ∷ 0x40000000 ∷ 0x40000000 ∷ 0 ∷ 0 ∷ 0 ∷ 0 ∷ 0 ∷ 0x7f7fffff ∷ 1 ∷ 0 ∷ 0 ∷ 0x72ffffff ∷ []) 8 152 1 2
+    (0x314d5452 ∷ 2 ∷ 2 ∷ 2 ∷ 0x40400000 ∷ 0x4494c000 ∷ 0x3f000000 ∷ 0 ∷ 0 ∷ 0 ∷ 0 ∷ 0x40000000 ∷ 0x40000000 ∷ 0x40000000 ∷ 1 ∷ 0 ∷ 0x3f800000 ∷ 0x3f800000 ∷ 0x3f800000 ∷ 0x3f800000 ∷ 0 ∷ 0x7f7fffff ∷ 0xbf800000 ∷ 0xbf800000 ∷ 0x3f800000 ∷ 0x3f800000 ∷ 0x3f800000 ∷ 0 ∷ 0x3f000000 ∷ 0x3f000000 ∷ 0x3f000000 ∷ 0x40000000 ∷ 0x3f800000 ∷ 0x3f000000 ∷ 0x3f000000 ∷ 0x40000000 ∷ 0 ∷ 1 ∷ [])
+    -- greatest, greatest, negative greatest in one leaf
+    ∷ builds (0x314d5952 ∷ 1 ∷ 2 ∷ 3 ∷ 0x4494c000 ∷ 0x3f000000 ∷ 0x40400000 ∷ 0 ∷ 0 ∷ 0 ∷ 0 ∷ 0x40000000 ∷ 0x40000000 ∷ 0x40000000 ∷ 0 ∷ 0 ∷ 0 ∷ 0 ∷ 0x7f7fffff ∷ 0 ∷ 1 ∷ 0 ∷ 0x7f7fffff ∷ 0 ∷ 0x00010000 ∷ 0 ∷ 0xff7fffff ∷ 0 ∷ []) 8 156 1 3
+    (0x314d5452 ∷ 2 ∷ 2 ∷ 3 ∷ 0x40400000 ∷ 0x4494c000 ∷ 0x3f000000 ∷ 0 ∷ 0 ∷ 0 ∷ 0 ∷ 0x40000000 ∷ 0x40000000 ∷ 0x40000000 ∷ 1 ∷ 0 ∷ 0x3f800000 ∷ 0x3f800000 ∷ 0x3f800000 ∷ 0x3f800000 ∷ 0x7f7fffff ∷ 0 ∷ 0xbf800000 ∷ 0xbf800000 ∷ 0x3fc00000 ∷ 0xbf000000 ∷ 0x3f000000 ∷ 0 ∷ 0x3f800000 ∷ 0x3f800000 ∷ 0x3f800000 ∷ 0x40400000 ∷ 0x3f555555 ∷ 0x3f555555 ∷ 0x3f000000 ∷ 0x40400000 ∷ 0 ∷ 1 ∷ 2 ∷ [])
+    -- a child too large, the root not
+    ∷ builds (0x314d5952 ∷ 1 ∷ 3 ∷ 9 ∷ 0x4494c000 ∷ 0x3f000000 ∷ 0x40400000 ∷ 0 ∷ 0 ∷ 0 ∷ 0 ∷ 0x40400000 ∷ 0x40400000 ∷ 0x40400000 ∷ 0 ∷ 0 ∷ 0 ∷ 0 ∷ 0x7f7fffff ∷ 0 ∷ 0x00010000 ∷ 0 ∷ 0x7f7fffff ∷ 0 ∷ 0x00020000 ∷ 0 ∷ 0 ∷ 0 ∷ 1 ∷ 0 ∷ 0xff7fffff ∷ 0 ∷ 0x00010001 ∷ 0 ∷ 0xff7fffff ∷ 0 ∷ 0x00020001 ∷ 0 ∷ 0 ∷ 0 ∷ 2 ∷ 0 ∷ 0 ∷ 0 ∷ 0x00010002 ∷ 0 ∷ 0 ∷ 0 ∷ 0x00020002 ∷ 0 ∷ 0 ∷ 0 ∷ []) 27 22 0 0 []
+    -- a quotient too large, the sums small
+    ∷ builds (0x314d5952 ∷ 1 ∷ 2 ∷ 2 ∷ 0x4494c000 ∷ 0x3f000000 ∷ 0x40400000 ∷ 0 ∷ 0 ∷ 0 ∷ 0 ∷ 0x77f684df ∷ 0x77f684df ∷ 0x77f684df ∷ 0 ∷ 0 ∷ 0 ∷ 0 ∷ 0x3f800000 ∷ 0 ∷ 1 ∷ 0 ∷ 0xbf7fffff ∷ 0 ∷ []) 8 22 0 0 []
     -- g 2 with (1, 0, 0), 16 bytes to spare, 7 journal words: put (0, 0, 0), remove (1, 0, 0); then two undos
     ∷ edits (headed 1 ++ (right ++ spare)) (0 ∷ 8 ∷ 8 ∷ 8 ∷ 8 ∷ 8 ∷ 8 ∷ []) (put 0 0 0 0x40400000 0xc0800000 ∷ remove 1 0 0 ∷ [])
     (96 ∷ 80 ∷ [])

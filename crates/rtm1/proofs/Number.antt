@@ -12,9 +12,9 @@ use lib.Ieee.Bits.{ofBits-toBits, toBits-lt}
 use lib.Ieee.Back.{unsigned-back, round-whole}
 use lib.Ieee.Fits.{ofInt-fits}
 use Rattle.float.specs.Number.{num}
-use Rattle.float.specs.Narrow.{narrow, narrowFinite, narrowed}
+use Rattle.float.specs.Narrow.{narrow, narrowFinite, narrowed, floatWord}
 use Rattle.float.proofs.Kit.{narrow-value, narrowed-value, narrowed-fits}
-use Rattle.rtm1.specs.Node.{minusOne, link, floatWord, numberWord}
+use Rattle.rtm1.specs.Node.{minusOne, link, numberWord}
 use Rattle.rtm1.specs.Read.{numberOf, linkOf}
 
 -- it has 32 bits

@@ -7,6 +7,7 @@ use mathlib.Core.List.{List, _++_, Memᴰ·append-left, Memᴰ·append-right}
 use native.Mathlib.Nat.{add-zero, mod-eq-of-lt}
 use native.Mathlib.Omega.{arith}
 use lib.ListN.{length, length-append, getD}
+use Rattle.float.specs.Narrow.{floatWords}
 use Rattle.rym1.specs.Bytes.{wordsBytes}
 use Rattle.rym1.proofs.Bytes.{words-append, length-words}
 use Rattle.rtm1.specs.declared.Cells.{Cells}
@@ -15,10 +16,11 @@ use Rattle.rtm1.specs.declared.Sums.{Sums}
 use Rattle.rtm1.specs.declared.Numbers.{Numbers}
 use Rattle.rtm1.specs.Visit.{nothing}
 use Rattle.rtm1.specs.Tree.{Tree, empty, leaf, split, nodeCount, order}
-use Rattle.rtm1.specs.Node.{frameOf, nodeFloats, floatWords, nodeWords, recordWords, nodeBytes, numberWord, emptyNumbers, leafNumbers, splitNumbers, nodesBytes}
+use Rattle.rtm1.specs.Node.{frameOf, nodeFloats, nodeWords, nodeBytes, numberWord, emptyNumbers, leafNumbers, splitNumbers, nodesBytes}
 use Rattle.rtm1.specs.Build.{headerWords, treeBytes}
 use Rattle.rtm1.specs.Read.{nodesIn, field, numbersAt, numberOf, linkOf, leftLink, rightLink, leafStart, leafCount, countAt, orderAt, orderWords, leafWords, wordsAt, Says, linkTo, Reads, Measures}
 use Rattle.rtm1.proofs.Node.{length-node-words}
+use Rattle.rtm1.proofs.Large.{nodes-empty, nodes-leaf, nodes-split}
 use Rattle.rtm1.proofs.Bytes.{length-nodes, header-long}
 use Rattle.rtm1.proofs.Order.{Counted}
 use Rattle.rtm1.proofs.Number.{number-small, number-back, zero-back, link-small, link-none, link-back}
@@ -51,8 +53,8 @@ module _ (s : List ℕ) (n : ℕ) (w : List ℕ) (q : Numbers) (h : Part s (64 +
 -- ---- the five numbers of a record, read back
 
 module _ (f : List ℕ) (n : ℕ) (r : Frame) (b : Cells) (s : Sums) where
-  record-numbers : (q : Numbers) → Small q → Part f (64 + 80 * n) (nodeBytes r b s q) → numbersAt f n ≡ q
-  unfolding nodeBytes recordWords
+  record-numbers : (q : Numbers) → Small q → Part f (64 + 80 * n) (nodeBytes (nodeFloats r b s) q) → numbersAt f n ≡ q
+  unfolding nodeBytes
   record-numbers q k h = numbers-back f n (floatWords (nodeFloats r b s)) q h k
 
 -- what a record says that has these numbers
@@ -84,11 +86,11 @@ split-small lo l hi r count =
 
 -- what each kind of record says, whatever its numbers are
 module _ (f : List ℕ) (n : ℕ) (r : Frame) (b : Cells) (s : Sums) where
-  empty-says : Part f (64 + 80 * n) (nodeBytes r b s emptyNumbers) → Says f n none none 0 0 0
+  empty-says : Part f (64 + 80 * n) (nodeBytes (nodeFloats r b s) emptyNumbers) → Says f n none none 0 0 0
   unfolding emptyNumbers
   empty-says p = says f n emptyNumbers none none 0 0 0 (record-numbers f n r b s emptyNumbers empty-small p) link-none link-none zero-back zero-back zero-back
 
-  leaf-says : (start points count k : ℕ) → Part f (64 + 80 * n) (nodeBytes r b s (leafNumbers start points count)) → start ≤ 16777216 → points ≤ 16777216
+  leaf-says : (start points count k : ℕ) → Part f (64 + 80 * n) (nodeBytes (nodeFloats r b s) (leafNumbers start points count)) → start ≤ 16777216 → points ≤ 16777216
       → count ≡ k → k ≤ 16777216 → Says f n none none start points k
   unfolding leafNumbers
   leaf-says start points count k p hs hp e hk =
@@ -96,13 +98,13 @@ module _ (f : List ℕ) (n : ℕ) (r : Frame) (b : Cells) (s : Sums) where
       link-none link-none (number-back start hs) (number-back points hp) (ap (λ (m : ℕ). numberOf (numberWord m)) e ∙ number-back k hk)
 
   split-says : (lo : Bool) (left : ℕ) (hi : Bool) (right count k : ℕ) (rest : List ℕ)
-      → Part f (64 + 80 * n) (nodeBytes r b s (splitNumbers lo left hi right count) ++ rest) → left ≤ 16777216 → right ≤ 16777216 → count ≡ k → k ≤ 16777216
+      → Part f (64 + 80 * n) (nodeBytes (nodeFloats r b s) (splitNumbers lo left hi right count) ++ rest) → left ≤ 16777216 → right ≤ 16777216 → count ≡ k → k ≤ 16777216
       → Says f n (cond lo (some left) none) (cond hi (some right) none) 0 0 k
   unfolding splitNumbers
   split-says lo left hi right count k rest p hl hr e hk =
       let q = splitNumbers lo left hi right count in
       says f n q (cond lo (some left) none) (cond hi (some right) none) 0 0 k
-      (record-numbers f n r b s q (split-small lo left hi right count) (part-left f (nodeBytes r b s q) rest (64 + 80 * n) p))
+      (record-numbers f n r b s q (split-small lo left hi right count) (part-left f (nodeBytes (nodeFloats r b s) q) rest (64 + 80 * n) p))
       (link-back lo left hl) (link-back hi right hr) zero-back zero-back (ap (λ (m : ℕ). numberOf (numberWord m)) e ∙ number-back k hk)
 
 -- ---- a tree whose records and order words stand in f is read there
@@ -110,11 +112,11 @@ module _ (f : List ℕ) (n : ℕ) (r : Frame) (b : Cells) (s : Sums) where
 module _ (f : List ℕ) (r : Frame) where
   pub reads : (t : Tree) (n o : ℕ) → Counted t → n + nodeCount t ≤ 16777216 → o + length (order t) ≤ 16777216 → AllWords (order t)
       → Part f (64 + 80 * n) (nodesBytes r t n o) → Part f (orderAt f + 4 * o) (wordsBytes (order t)) → Reads f t n o
-  unfolding Reads Counted nodesBytes nodeCount order leafWords
-  reads (empty b) n o c hn ho small p w = empty-says f n r b nothing p
+  unfolding Reads Counted nodeCount order leafWords
+  reads (empty b) n o c hn ho small p w = empty-says f n r b nothing (subst (λ (v : List ℕ). Part f (64 + 80 * n) v) (nodes-empty r b n o) p)
   reads (leaf b s is) n o c hn ho small p w =
       let k = length is in
-      let said : Says f n none none o k k = leaf-says f n r b s _ _ _ k p (omega arith) (omega arith) c (omega arith) in
+      let said : Says f n none none o k k = leaf-says f n r b s _ _ _ k (subst (λ (v : List ℕ). Part f (64 + 80 * n) v) (nodes-leaf r b n o s is) p) (omega arith) (omega arith) c (omega arith) in
       (said, ap₂ (λ (i m : ℕ). wordsAt f (orderAt f + 4 * i) m) (said .start-is) (said .points-are) ∙ words-back f is (orderAt f + 4 * o) w small)
   reads (split b s l h) n o c hn ho small p w =
       let a = n + 1 in
@@ -125,8 +127,9 @@ module _ (f : List ℕ) (r : Frame) where
       let high = nodesBytes r h z (o + i) in
       let nodes : length low ≡ 80 * nodeCount l = length-nodes r l a o in
       let both : length (order l ++ order h) ≡ i + j = length-append (order l) (order h) in
-      let said : Says f n (linkTo l a) (linkTo h z) 0 0 (i + j) = split-says f n r b s _ _ _ _ _ (i + j) (low ++ high) p (omega arith) (omega arith) (c .0) (omega arith) in
-      let children : Part f (64 + 80 * a) (low ++ high) = behind f n r b s _ (low ++ high) p in
+      let all = subst (λ (v : List ℕ). Part f (64 + 80 * n) v) (nodes-split r b n o s l h) p in
+      let said : Says f n (linkTo l a) (linkTo h z) 0 0 (i + j) = split-says f n r b s _ _ _ _ _ (i + j) (low ++ high) all (omega arith) (omega arith) (c .0) (omega arith) in
+      let children : Part f (64 + 80 * a) (low ++ high) = behind f n r b s _ (low ++ high) all in
       let words : Part f (orderAt f + 4 * o) (wordsBytes (order l) ++ wordsBytes (order h)) =
       subst (λ (v : List ℕ). Part f (orderAt f + 4 * o) v) (words-append (order l) (order h)) w in (
         said,

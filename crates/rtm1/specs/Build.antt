@@ -1,5 +1,6 @@
 -- The tree file RTM1, and what build answers and leaves in its output. Definitions only.
 use Prim.Native.Nat.{ℕ, _+_, _*_}
+use mathlib.Core.Bool.{Bool}
 use mathlib.Core.List.{List, [], _∷_, _++_}
 use lib.ListN.{length}
 use lib.Dec.{ltb}
@@ -10,7 +11,7 @@ use Rattle.rym1.specs.Cells.{look}
 use Rattle.rtm1.specs.declared.Built.{Built}
 use Rattle.rtm1.specs.declared.Built.the-variants.{Refused, Done}
 use Rattle.rtm1.specs.Tree.{Tree, tree, nodeCount, order}
-use Rattle.rtm1.specs.Node.{frameOf, nodesBytes}
+use Rattle.rtm1.specs.Node.{frameOf, nodesFloats, someLarge, nodesBytes}
 
 -- f: a point file, of which the header alone is read; n: the node count. Floats keep their bits; scale, density and volume stand in this order here.
 unfoldable pub headerWords : List ℕ → ℕ → List ℕ
@@ -40,6 +41,10 @@ treeBytes f t = wordsBytes (headerWords f (nodeCount t)) ++ (nodesBytes (frameOf
 unfoldable pub treeLength : Tree → ℕ
 treeLength t = 64 + 80 * nodeCount t + 4 * length (order t)
 
+-- a float of the nodes is too large
+unfoldable pub treeLarge : List ℕ → Tree → Bool
+treeLarge f t = someLarge (nodesFloats (frameOf f) t)
+
 -- the tree of a point file
 abbrev pub fileTree : List ℕ → Tree
 fileTree f = tree (look f) (grid f)
@@ -59,9 +64,12 @@ output n k s = record { nodes = n; order = k; out = s }
 unfoldable pub sourceCause : List ℕ → ℕ → ℕ
 sourceCause f words = first (fileCause f) (first (when (ltb words (cube (grid f))) 8) (repeatCause f))
 
--- that; 9, no room for the tree
+-- that; 22, a float of the tree is too large; 9, no room for the tree
 unfoldable pub buildCause : List ℕ → ℕ → List ℕ → ℕ
-buildCause f words out = first (sourceCause f words) (when (ltb (length out) (treeLength (fileTree f))) 9)
+buildCause f words out =
+    first (sourceCause f words)
+    (first (when (treeLarge f (fileTree f)) 22)
+    (when (ltb (length out) (treeLength (fileTree f))) 9))
 
 -- f: the point file; words: how many words of scratch; out: the output at entry
 unfoldable pub build : List ℕ → ℕ → List ℕ → Outcome Output

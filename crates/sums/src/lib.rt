@@ -1,6 +1,5 @@
-// The visit of a box, z outermost, x innermost: the sums of its points, their number, their order words.
+// The visit of a box, z outermost, x innermost: the sums of its points, their order words.
 // A lookup in lent words names them.
-pub mod counted;
 pub mod ordered;
 
 ghost use mathlib.Core.Path.{_≡_};

@@ -2,14 +2,14 @@
 -- To believe it, read the definitions (rtm1/specs), the words of specs/Said, and the signatures here. Assumes nothing.
 use Prim.Native.Nat.{ℕ, _+_, _*_, _/_, _%_, _<_, _≤_}
 use mathlib.Core.Path.{_≡_, refl, sym, ap, _∙_, subst}
-use mathlib.Core.Bool.{true}
+use mathlib.Core.Bool.{true, false}
 use mathlib.Core.Option.{some}
 use mathlib.Core.Logic.{_↔_}
-use mathlib.Core.List.{List, _++_}
+use mathlib.Core.List.{List, [], _++_}
 use native.Mathlib.Nat.{le-trans}
 use native.Mathlib.Omega.{arith}
 use lib.ListN.{length, take, drop}
-use Rattle.rym1.specs.File.{grid, count, pointAt, cell, cellOf, cube, fileCause, repeatCause}
+use Rattle.rym1.specs.File.{grid, count, pointAt, cell, cellOf, cube, allFinite, fileCause, repeatCause}
 use Rattle.rym1.specs.Cells.{Masses, Slot, held, massesOf, look}
 use Rattle.rym1.proofs.Bytes.{AllBytes, word-lt}
 use Rattle.rym1.proofs.Accepted.{Inside, accepted}
@@ -23,7 +23,7 @@ use Rattle.rtm1.specs.Boxes.{Within, whole, cells, widest, lower, upper}
 use Rattle.rtm1.specs.Visit.{Placed, visit}
 use Rattle.rtm1.specs.Tree.{Tree, leaf, kindAt, indices, grow, fuel, treeOf, tree, nodeCount, order, occupied}
 use Rattle.rtm1.specs.Node.{frameOf}
-use Rattle.rtm1.specs.Build.{treeBytes, treeLength, fileTree, build}
+use Rattle.rtm1.specs.Build.{treeBytes, treeLength, treeLarge, fileTree, build}
 use Rattle.rtm1.proofs.Boxes.{Halves, halves, whole-within, cells-few}
 use Rattle.rtm1.proofs.Visit.{visit-halves}
 use Rattle.rtm1.proofs.Growth as growth
@@ -31,10 +31,10 @@ use Rattle.rtm1.proofs.Growth.{byKind, fuel-enough, tree-same}
 use Rattle.rtm1.proofs.Order as words
 use Rattle.rtm1.proofs.Order.{order-permutes, nodes-at-most, counted}
 use Rattle.rtm1.proofs.Bytes.{length-tree}
-use Rattle.rtm1.proofs.Measured.{fit}
+use Rattle.rtm1.proofs.Measured.{fit, nodes-fine}
 use Rattle.rtm1.proofs.Read as reading
-use Rattle.rtm1.proofs.Build.{build-out}
-use Rattle.rtm1.specs.Read.{Turn, nodesIn, orderWords, leafWords, walk, Reads, Measures}
+use Rattle.rtm1.proofs.Build.{build-out, answered-small}
+use Rattle.rtm1.specs.Read.{Turn, nodesIn, floatsAt, orderWords, leafWords, walk, Reads, Measures}
 use Rattle.tree_laws.specs.Said.{_∈_, _~_, times, In, Part, OneOf, Found, Holds, Somewhere, Distinct, Leads, place, ahead, LeafOf, Stands, OneLeaf}
 use Rattle.tree_laws.proofs.Lists.{perm-times, each-once}
 use Rattle.tree_laws.proofs.Boxes.{in-halves}
@@ -281,6 +281,13 @@ module _ (h rest : List ℕ) (look : ℕ → Slot) (g : ℕ) (pos : 0 < g) (few 
       let all = reading.floats-read h (tree look g) rest (counted look g (whole g) whole-grid) (le-trans node-count-few (cube-few g few)) (le-trans words-few (cube-few g few)) words-low (fit look g (whole g) whole-grid) in
       subst (λ (k : ℕ). Measures treeFile (frameOf h) m k) n (measures-node treeFile (frameOf h) (tree look g) way m 0 all l)
 
+  -- where none is too large, all of them are finite
+  pub floats-finite : treeLarge h (tree look g) ≡ false → (n : ℕ) → n < nodesIn treeFile → allFinite (floatsAt treeFile n) ≡ true
+  unfolding treeLarge Leads place
+  floats-finite small n low =
+      let t = tree look g in
+      nodes-fine treeFile (frameOf h) t 0 (fit look g (whole g) whole-grid) (node-floats [] t refl) small n (omega arith) (omega (arith, nodes-read))
+
   -- the walk by links reaches the nodes that have points, each by the way down the tree, and no other place
   pub walk-reaches : (way : List Turn) (m : Tree) → Leads (tree look g) way m → occupied m ≡ true → walk treeFile way ≡ some (place (tree look g) way)
   unfolding walk
@@ -321,18 +328,19 @@ module _ (h rest : List ℕ) (look : ℕ → Slot) (g : ℕ) (pos : 0 < g) (few 
 
 -- ---- 11. what build writes
 
--- of an accepted point file, given as bytes, where build answers a length: each occupied cell's index stands in exactly one leaf of what build wrote,
--- and the record at that index names the cell and has its masses
+-- of an accepted point file, given as bytes, where build answers a length
 module _ (f : List ℕ) (ok : fileCause f ≡ 0) (bytes : AllBytes f) (words : ℕ) (out : List ℕ) (done : 64 ≤ build f words out .answer) where
+  low : (c i : ℕ) → c < cube (grid f) → Holds (look f) c i → i < 4294967296
+  unfolding count
+  low c i k (m, e) = omega (arith, file-record f c i m e .0, word-lt 4 f 12 bytes)
+
+  -- each occupied cell's index stands in exactly one leaf of what build wrote, and the record at that index names the cell and has its masses
   pub written-leaf : (c i : ℕ) (m : Masses) → look f c ≡ held i m
       → OneLeaf (build f words out .left .out) i × (cellOf (grid f) (pointAt f (64 + 16 * i)) ≡ c) × (massesOf (pointAt f (64 + 16 * i)) ≡ m)
-  unfolding count
   written-leaf c i m h =
       let g = grid f in
       let a = accepted f ok in
       let (inside, holds) = file-place f ok c i (m, h) in
-      let low : (c i : ℕ) → c < cube g → Holds (look f) c i → i < 4294967296 =
-      λ c i k (m, e). omega (arith, file-record f c i m e .0, word-lt 4 f 12 bytes) in
       let t = fileTree f in (
         subst (λ (s : List ℕ). OneLeaf s i) (sym (build-out f words out ok done))
             (read-leaf f (drop (length (treeBytes f t)) out) (look f) g (a .grid-pos) (a .grid-few) low (file-distinct f)
@@ -340,3 +348,11 @@ module _ (f : List ℕ) (ok : fileCause f ≡ 0) (bytes : AllBytes f) (words : �
         file-record f c i m h .1,
         file-record f c i m h .2,
       )
+
+  -- every float of every node that build wrote is finite
+  pub written-finite : (n : ℕ) → n < nodesIn (build f words out .left .out) → allFinite (floatsAt (build f words out .left .out) n) ≡ true
+  written-finite =
+      let a = accepted f ok in
+      let t = fileTree f in
+      subst (λ (s : List ℕ). (n : ℕ) → n < nodesIn s → allFinite (floatsAt s n) ≡ true) (sym (build-out f words out ok done))
+      (floats-finite f (drop (length (treeBytes f t)) out) (look f) (grid f) (a .grid-pos) (a .grid-few) low (answered-small f words out ok done))

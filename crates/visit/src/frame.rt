@@ -6,6 +6,7 @@ ghost use Rattle.filling.specs.Fill.{flat, boxFlat};
 use filling::Bounds;
 use filling::Frame;
 use filling::Vec3;
+use float::Narrowed;
 use float::number::scalar_min;
 use model::sub;
 
@@ -77,8 +78,14 @@ pub fn middle(f: Frame, g: u32, c: u32) -> Vec3
 fn flat(min: f64, max: f64) -> bool
     ensures { λ r. ⌜ r ≡ flat min max ⌝ }
 {
-    let low = float::pattern::f32_from_bits(float::narrow(min));
-    let high = float::pattern::f32_from_bits(float::narrow(max));
+    let least = float::narrow(min);
+    let Narrowed::Finite(low) = least else {
+        return true;
+    };
+    let greatest = float::narrow(max);
+    let Narrowed::Finite(high) = greatest else {
+        return true;
+    };
     !(low < high)
 }
 

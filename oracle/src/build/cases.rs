@@ -7,8 +7,8 @@ use crate::open::cases::{
 };
 use crate::points::{point_file, Header, Record};
 use crate::rng::Rng;
-use crate::rule::tree::tree;
-use crate::rule::{cell_of, folded};
+use crate::rule::tree::{points_of_nodes, tree};
+use crate::rule::{cell_of, folded, HEADER, RECORD, TOO_LARGE};
 
 /// Cells in ascending order, at a grid size.
 type Shape = fn(&mut Rng, usize) -> Vec<usize>;
@@ -16,7 +16,7 @@ type Shape = fn(&mut Rng, usize) -> Vec<usize>;
 /// Masses for so many points, in cell order.
 type Masses = fn(&mut Rng, usize) -> Vec<f32>;
 
-pub(crate) const KINDS: [Kind; 22] = [
+pub(crate) const KINDS: [Kind; 25] = [
     kind("every grid size", 16_000, every_grid, nothing),
     kind("full grids", 1_200, full_grid, nothing),
     kind("touching balls", 8_000, balls, nothing),
@@ -41,19 +41,22 @@ pub(crate) const KINDS: [Kind; 22] = [
     ),
     kind("scratch lengths", 30_000, any_cells, scratch_length),
     kind("output lengths", 40_000, any_cells, output_length),
-    kind("several causes", 60_000, any_cells, several),
+    kind("several causes", 60_000, any_cause, several),
     kind("mutated bytes", 40_000, any_cells, mutated),
     kind("21 and short buffers", 30_000, repeated, short_buffers),
+    kind("too large", 40_000, too_large, nothing),
+    kind("nearly too large", 60_000, nearly, nothing),
+    kind("22 and other causes", 40_000, too_large, earlier_and_later),
 ];
 
 /// Masses such as a body has.
-const USUAL: [Masses; 3] = [positive, positive, any];
+const USUAL: [Masses; 3] = [positive, positive, moderate];
 
 /// Masses that take each other away, wholly or nearly.
 const CANCELLING: [Masses; 4] = [balanced, balanced, near_nothing, far];
 
 /// Masses at the edges of what is finite.
-const EXTREME: [Masses; 4] = [zeros, edges, huge, any];
+const EXTREME: [Masses; 6] = [zeros, edges, huge, any, lesser_edges, moderate];
 
 /// A file as it stands, with just enough room for the tree of the folded one; build has no journal.
 pub(crate) fn exact(file: Vec<u8>, grid: usize, records: usize) -> Case {
@@ -186,6 +189,11 @@ fn any_cells(rng: &mut Rng) -> Case {
     pick(rng, &[small, small, small, repeated])(rng)
 }
 
+/// A float too large once in four.
+fn any_cause(rng: &mut Rng) -> Case {
+    pick(rng, &[any_cells, any_cells, any_cells, too_large])(rng)
+}
+
 fn with_records(rng: &mut Rng) -> Case {
     with_records_of(rng, any_cells)
 }
@@ -194,7 +202,7 @@ fn with_records(rng: &mut Rng) -> Case {
 fn uneven(rng: &mut Rng) -> Case {
     let grid = small_grid(rng);
     let cells = any_share(rng, grid);
-    let records = records(rng, grid, &cells, &[positive, any, balanced]);
+    let records = records(rng, grid, &cells, &[positive, moderate, balanced]);
     let header = header(rng, grid);
     with_room(rng, header, &records)
 }
@@ -219,6 +227,176 @@ fn repeated(rng: &mut Rng) -> Case {
     }
     let header = a_header(rng, grid);
     with_room(rng, header, &records)
+}
+
+/// A tree under way that one node is to make too large, or nearly: its records with usual masses, the points of its nodes by their indices,
+/// nodes in preorder, and the list of masses that the node is to have.
+struct Edge {
+    header: Header,
+    records: Vec<Record>,
+    nodes: Vec<Vec<u32>>,
+    elliptic: bool,
+}
+
+impl Edge {
+    /// At least two points.
+    fn drawn(rng: &mut Rng) -> Self {
+        let grid = small_grid(rng).max(2);
+        let shape = pick::<Shape>(rng, &[any_share, rows_and_planes, near_eight, near_eight]);
+        let cells = std::iter::repeat_with(|| shape(rng, grid));
+        let cells = cells.take(8).find(|cells| cells.len() > 1);
+        let cells = cells.unwrap_or_else(|| all(rng, grid));
+        let mut records = records(rng, grid, &cells, &[positive]);
+        reorder(rng, &mut records);
+        let header = a_header(rng, grid);
+        Self {
+            nodes: points_of_nodes(&point_file(header, &records)),
+            header,
+            records,
+            elliptic: one_in(rng, 2),
+        }
+    }
+
+    fn mass(&mut self, point: u32) -> &mut f32 {
+        let record = &mut self.records[point as usize];
+        match self.elliptic {
+            true => &mut record.elliptic_mass,
+            false => &mut record.cauchy_mass,
+        }
+    }
+
+    /// The root, or mostly a node below it that has two points and not all of them, where there is one.
+    fn node(&self, rng: &mut Rng) -> usize {
+        let all = self.records.len();
+        let below = 1..self.nodes.len();
+        let fit = below.filter(|&node| (2..all).contains(&self.nodes[node].len()));
+        let fit: Vec<usize> = fit.collect();
+        match one_in(rng, 3) || fit.is_empty() {
+            true => 0,
+            false => pick(rng, &fit),
+        }
+    }
+
+    /// A point that the node lacks and the least node round it that has more than it.
+    fn besides(&self, node: usize) -> Option<u32> {
+        let within = &self.nodes[node];
+        let round = self.nodes[..node].iter().rev();
+        let mut round = round.filter(|points| points.contains(&within[0]));
+        round.find_map(|points| points.iter().copied().find(|p| !within.contains(p)))
+    }
+
+    /// The node's masses, of its first point, its last, then those between, as many as it has, and 0 elsewhere in it; the point besides
+    /// gets a mass too.
+    fn put(&mut self, node: usize, masses: &[f32], besides: f32) {
+        let points = self.nodes[node].clone();
+        points.iter().for_each(|&point| *self.mass(point) = 0.0);
+        let last = points.len() - 1;
+        let places = [0, last].into_iter().chain(1..last);
+        for (place, &mass) in places.zip(masses) {
+            *self.mass(points[place]) = mass;
+        }
+        if let Some(point) = self.besides(node) {
+            *self.mass(point) = besides;
+        }
+    }
+
+    /// The coordinates in cells of the centre of mass far outside that two masses with the sum 2^-24 give a node's ends: 1 at the first
+    /// point, the float before 1 taken away at the last. All else is 0, and a 1 besides, so that the nodes round it have centres of their own.
+    fn take_away(&mut self, node: usize) -> [f64; 3] {
+        let all = 0..self.records.len() as u32;
+        all.for_each(|point| *self.mass(point) = 0.0);
+        self.put(node, &[1.0, -1f32.next_down()], 1.0);
+        let points = &self.nodes[node];
+        let [first, last] = [points[0], points[points.len() - 1]];
+        let [a, b] = [first, last].map(|point| self.records[point as usize].cell.map(f64::from));
+        [0, 1, 2].map(|axis| (a[axis] - b[axis]) * 16_777_216.0 + b[axis])
+    }
+
+    fn case(&self, rng: &mut Rng) -> Case {
+        with_room(rng, self.header, &self.records)
+    }
+}
+
+/// A node is too large, and mostly none round it: by a mass sum, or by a centre of mass while the sums are small.
+fn too_large(rng: &mut Rng) -> Case {
+    let mut edge = Edge::drawn(rng);
+    let node = edge.node(rng);
+    let sign = pick(rng, &[1.0, -1.0]);
+    if one_in(rng, 3) {
+        edge.take_away(node);
+        let side = pick(rng, &[1e34, 1e36, f32::MAX]);
+        edge.header.min = [pick(rng, &[0.0, -side, 1.0]); 3];
+        edge.header.max = [side; 3];
+    } else {
+        let heavy = [f32::MAX, f32::MAX, 2f32.powi(127), 2.6e38];
+        let masses = [0; 2].map(|_| sign * pick(rng, &heavy));
+        edge.put(node, &masses, -masses[0]);
+    }
+    edge.case(rng)
+}
+
+/// 2^103 is a half unit of the greatest floats, 2^75 a unit of binary64 beside them. About half of these sums are too large, some of them
+/// only where the node has no third point.
+const NEAR: [[f32; 3]; 12] = {
+    const MAX: f32 = f32::MAX;
+    const HALF: f32 = f32::from_bits(0x7300_0000);
+    const UNIT: f32 = f32::from_bits(0x6500_0000);
+    const BINADE: f32 = f32::from_bits(0x7f00_0000);
+    [
+        [MAX, HALF, 0.0],
+        [MAX, HALF, UNIT],
+        [MAX, HALF, -UNIT],
+        [MAX, HALF, -HALF],
+        [MAX, HALF.next_down(), 0.0],
+        [MAX, HALF.next_up(), 0.0],
+        [BINADE, BINADE, -UNIT],
+        [BINADE, BINADE, -HALF],
+        [BINADE, BINADE.next_down(), 0.0],
+        [MAX, MAX, -MAX],
+        [MAX, -MAX, MAX],
+        [MAX, 0.0, -0.0],
+    ]
+};
+
+/// A mass sum or a centre of mass at the threshold, on either side of it; greatest masses that take each other away; the greatest box.
+fn nearly(rng: &mut Rng) -> Case {
+    let mut edge = Edge::drawn(rng);
+    let node = edge.node(rng);
+    let sign = pick(rng, &[1.0, -1.0]);
+    match rng.below(8) {
+        0..4 => {
+            let masses = pick(rng, &NEAR).map(|mass| sign * mass);
+            edge.put(node, &masses, -0.5 * masses[0]);
+        }
+        4..7 => {
+            let centre = edge.take_away(node);
+            let farthest = centre
+                .map(|c| (c + 0.5).abs())
+                .into_iter()
+                .fold(0.0, f64::max);
+            let side = (TOO_LARGE / farthest * f64::from(edge.header.grid)) as f32;
+            let side = pick(rng, &[side, side, side, side.next_up(), side.next_down()]);
+            (edge.header.min, edge.header.max) = ([0.0; 3], [side; 3]);
+        }
+        _ => (edge.header.min, edge.header.max) = ([f32::MIN; 3], [f32::MAX; 3]),
+    }
+    edge.case(rng)
+}
+
+/// The output short once in two, a record of a cell that a later one names once in two, scratch short once in four: 22 meets the causes before
+/// it and after it.
+fn earlier_and_later(rng: &mut Rng, number: usize, case: &mut Case) {
+    let [out, scratch] = [number & 1, usize::from(number & 12 == 12)];
+    short_buffers(rng, scratch | out << 1, case);
+    if number & 2 != 0 {
+        let again = HEADER + RECORD * up_to(rng, case.records - 1);
+        let cell = case.file[again..again + 6].to_vec();
+        let first = [cell, vec![0; 10]].concat();
+        case.file.splice(HEADER..HEADER, first);
+        case.records += 1;
+        let count = (case.records as u32).to_le_bytes();
+        case.file[12..16].copy_from_slice(&count);
+    }
 }
 
 /// Grid sizes 25 to 64; a few at 192 and 256, with few points.
@@ -342,8 +520,18 @@ fn positive(rng: &mut Rng, points: usize) -> Vec<f32> {
     (0..points).map(mass).collect()
 }
 
+/// Any float that is finite, and few points are enough for a sum too large.
 fn any(rng: &mut Rng, points: usize) -> Vec<f32> {
     (0..points).map(|_| finite(rng)).collect()
+}
+
+/// Any float below 2^100: no sum of them is too large.
+fn moderate(rng: &mut Rng, points: usize) -> Vec<f32> {
+    let mass = |_| match finite(rng) {
+        mass if mass.abs() < 2f32.powi(100) => mass,
+        mass => mass * 2f32.powi(-100),
+    };
+    (0..points).map(mass).collect()
 }
 
 fn zeros(rng: &mut Rng, points: usize) -> Vec<f32> {
@@ -356,7 +544,15 @@ fn edges(rng: &mut Rng, points: usize) -> Vec<f32> {
         .collect()
 }
 
-/// Sums that narrow to infinity, or nearly: the greatest float and others near it, mostly of one sign.
+/// The same without the greatest.
+fn lesser_edges(rng: &mut Rng, points: usize) -> Vec<f32> {
+    let (lesser, _) = FINITE.split_at(FINITE.len() - 2);
+    (0..points)
+        .map(|_| f32::from_bits(pick(rng, lesser)))
+        .collect()
+}
+
+/// Sums that are too large, or nearly: the greatest float and others near it, mostly of one sign.
 fn huge(rng: &mut Rng, points: usize) -> Vec<f32> {
     let sign = pick(rng, &[1.0, -1.0]);
     let of = [f32::MAX, f32::MAX / 2.0, 1.2e31, -f32::MAX, 0.0];

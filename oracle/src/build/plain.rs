@@ -22,78 +22,91 @@ pub(super) enum Fault {
     LeafStartsAtZero,
     EmptyCentresAtZero,
     Twice(Twice),
+    // 22: which floats are judged
+    LargeNever,
+    LargeRootOnly,
+    LargeLeavesOnly,
+    LargeUpperUnjudged,
+    LargeSumsOnly,
+    LargeCentresOnly,
+    LargeCauchyOnly,
+    LargePositiveOnly,
+    LargeByTotal,
+    LargeByPartialSum,
+    LargeByExtent,
+    // its threshold
+    LargeFromInfinity,
+    LargeAboveThreshold,
+    LargeFromGreatest,
+    // its place and what it leaves
+    LargeBeforeTwice,
+    LargeAfterOutput,
+    LargeSaidAsNine,
+    LargeWrites,
+    LargeWithCounts,
+}
+
+macro_rules! build_with {
+    ($fault:expr) => {
+        |file, scratch, out| plain_build($fault, file, scratch, out)
+    };
+}
+
+macro_rules! twice_with {
+    ($twice:ident) => {
+        build_with!(Fault::Twice(Twice::$twice))
+    };
 }
 
 /// Build with each fault, and a kind of case that shows it.
-pub(crate) const FAULTS: [(Build, &str); 17] = [
-    (|f, s, o| plain_build(Fault::OneRoot, f, s, o), "full grids"),
-    (
-        |f, s, o| plain_build(Fault::NoRecordOfAnEmptyChild, f, s, o),
-        "8 and 9 points",
-    ),
-    (
-        |f, s, o| plain_build(Fault::LinkToAnEmptyChild, f, s, o),
-        "8 and 9 points",
-    ),
-    (
-        |f, s, o| plain_build(Fault::SumsInFileOrder, f, s, o),
-        "every grid size",
-    ),
-    (
-        |f, s, o| plain_build(Fault::SumsInBinary32, f, s, o),
-        "full grids",
-    ),
-    (
-        |f, s, o| plain_build(Fault::TieToZ, f, s, o),
-        "rows and planes",
-    ),
-    (
-        |f, s, o| plain_build(Fault::SplitRoundedUp, f, s, o),
-        "every grid size",
-    ),
-    (
-        |f, s, o| plain_build(Fault::LeafOfNine, f, s, o),
-        "8 and 9 points",
-    ),
-    (
-        |f, s, o| plain_build(Fault::NoThreshold, f, s, o),
-        "cancelling masses",
-    ),
-    (
-        |f, s, o| plain_build(Fault::HalfOfX, f, s, o),
-        "uneven boxes",
-    ),
-    (
-        |f, s, o| plain_build(Fault::DensityBeforeScale, f, s, o),
-        "uneven boxes",
-    ),
-    (
-        |f, s, o| plain_build(Fault::LeafStartsAtZero, f, s, o),
-        "full grids",
-    ),
-    (
-        |f, s, o| plain_build(Fault::EmptyCentresAtZero, f, s, o),
-        "rows and planes",
-    ),
-    (
-        |f, s, o| plain_build(Fault::Twice(Twice::OnlyNeighbours), f, s, o),
-        "repeated cells",
-    ),
-    (
-        |f, s, o| plain_build(Fault::Twice(Twice::ByMasses), f, s, o),
-        "repeated cells",
-    ),
-    (
-        |f, s, o| plain_build(Fault::Twice(Twice::BeforeScratch), f, s, o),
-        "21 and short buffers",
-    ),
-    (
-        |f, s, o| plain_build(Fault::Twice(Twice::AfterOutput), f, s, o),
-        "21 and short buffers",
-    ),
+pub(crate) const FAULTS: [(Build, &str); 36] = [
+    (build_with!(Fault::OneRoot), "full grids"),
+    (build_with!(Fault::NoRecordOfAnEmptyChild), "8 and 9 points"),
+    (build_with!(Fault::LinkToAnEmptyChild), "8 and 9 points"),
+    (build_with!(Fault::SumsInFileOrder), "every grid size"),
+    (build_with!(Fault::SumsInBinary32), "full grids"),
+    (build_with!(Fault::TieToZ), "rows and planes"),
+    (build_with!(Fault::SplitRoundedUp), "every grid size"),
+    (build_with!(Fault::LeafOfNine), "8 and 9 points"),
+    (build_with!(Fault::NoThreshold), "cancelling masses"),
+    (build_with!(Fault::HalfOfX), "uneven boxes"),
+    (build_with!(Fault::DensityBeforeScale), "uneven boxes"),
+    (build_with!(Fault::LeafStartsAtZero), "full grids"),
+    (build_with!(Fault::EmptyCentresAtZero), "rows and planes"),
+    (twice_with!(OnlyNeighbours), "repeated cells"),
+    (twice_with!(ByMasses), "repeated cells"),
+    (twice_with!(BeforeScratch), "21 and short buffers"),
+    (twice_with!(AfterOutput), "21 and short buffers"),
+    (build_with!(Fault::LargeNever), "too large"),
+    (build_with!(Fault::LargeRootOnly), "too large"),
+    (build_with!(Fault::LargeLeavesOnly), "too large"),
+    (build_with!(Fault::LargeUpperUnjudged), "too large"),
+    (build_with!(Fault::LargeSumsOnly), "too large"),
+    (build_with!(Fault::LargeCentresOnly), "too large"),
+    (build_with!(Fault::LargeCauchyOnly), "too large"),
+    (build_with!(Fault::LargePositiveOnly), "too large"),
+    (build_with!(Fault::LargeByTotal), "nearly too large"),
+    (build_with!(Fault::LargeByPartialSum), "nearly too large"),
+    (build_with!(Fault::LargeByExtent), "nearly too large"),
+    (build_with!(Fault::LargeFromInfinity), "nearly too large"),
+    (build_with!(Fault::LargeAboveThreshold), "nearly too large"),
+    (build_with!(Fault::LargeFromGreatest), "nearly too large"),
+    (build_with!(Fault::LargeBeforeTwice), "22 and other causes"),
+    (build_with!(Fault::LargeAfterOutput), "22 and other causes"),
+    (build_with!(Fault::LargeSaidAsNine), "too large"),
+    (build_with!(Fault::LargeWrites), "too large"),
+    (build_with!(Fault::LargeWithCounts), "too large"),
 ];
 
-/// A tree under way: nodes as they will be written, but in binary64.
+/// Some of the faults of 22, for trees after edits.
+pub(crate) const LARGE: [Build; 4] = [
+    build_with!(Fault::LargeNever),
+    build_with!(Fault::LargeRootOnly),
+    build_with!(Fault::LargeWrites),
+    build_with!(Fault::LargeByTotal),
+];
+
+/// A tree under way: nodes as they will be written, but in binary64; what a fault judges besides them.
 struct Plain<'a> {
     fault: Fault,
     grid: usize,
@@ -102,6 +115,7 @@ struct Plain<'a> {
     records: &'a [[u8; 16]],
     lookup: &'a [u32],
     nodes: Vec<[f64; 20]>,
+    besides: Vec<f64>,
     order: Vec<u32>,
 }
 
@@ -213,6 +227,7 @@ impl Plain<'_> {
         let place = self.nodes.len();
         let points = self.visited(low, high);
         self.nodes.push(self.floats(&points, low, high));
+        self.besides.push(self.besides(&points));
         if points.is_empty() {
             if self.has(Fault::NoRecordOfAnEmptyChild) && place > 0 {
                 self.nodes.pop();
@@ -239,6 +254,76 @@ impl Plain<'_> {
             }
         }
         Some(place)
+    }
+
+    /// The greater sum of magnitudes of the two masses, the greatest magnitude of a sum under way, the box's greatest extent.
+    fn besides(&self, points: &[u32]) -> f64 {
+        let of = |at: usize| {
+            let masses = points.iter().map(|&index| {
+                let record = &self.records[index as usize];
+                f64::from(float(record, at))
+            });
+            let sums = masses.clone().scan(0.0, |sum: &mut f64, mass| {
+                *sum += mass;
+                Some(sum.abs())
+            });
+            match self.fault {
+                Fault::LargeByTotal => masses.map(f64::abs).sum(),
+                Fault::LargeByPartialSum => sums.fold(0.0, f64::max),
+                _ => 0.0,
+            }
+        };
+        let extents = self.cell.map(|cell| cell * self.grid as f64);
+        match self.fault {
+            Fault::LargeByExtent => extents.into_iter().fold(0.0, f64::max),
+            _ => of(8).max(of(12)),
+        }
+    }
+
+    fn is_large(&self, number: f64) -> bool {
+        let magnitude = match self.fault {
+            Fault::LargePositiveOnly => number,
+            _ => number.abs(),
+        };
+        let threshold = f64::from(f32::MAX) + 2f64.powi(103);
+        match self.fault {
+            Fault::LargeNever => false,
+            Fault::LargeFromInfinity => magnitude >= 2f64.powi(128),
+            Fault::LargeAboveThreshold => magnitude > threshold,
+            Fault::LargeFromGreatest => magnitude >= f64::from(f32::MAX),
+            _ => (magnitude as f32) == f32::INFINITY,
+        }
+    }
+
+    fn is_judged(&self, place: usize) -> bool {
+        let is_upper = || self.nodes.iter().any(|node| node[7] == place as f64);
+        match self.fault {
+            Fault::LargeRootOnly => place == 0,
+            Fault::LargeLeavesOnly => self.nodes[place][15] > 0.0,
+            Fault::LargeUpperUnjudged => !is_upper(),
+            _ => true,
+        }
+    }
+
+    /// Cause 22.
+    fn judged(&self) -> Result<(), u64> {
+        let floats: &[usize] = match self.fault {
+            Fault::LargeSumsOnly => &[4, 5],
+            Fault::LargeCentresOnly => &[8, 9, 10, 12, 13, 14, 16, 17, 18],
+            Fault::LargeCauchyOnly => &[4, 8, 9, 10],
+            _ => &[0, 1, 2, 3, 4, 5, 8, 9, 10, 12, 13, 14, 16, 17, 18],
+        };
+        let mut judged = (0..self.nodes.len()).filter(|&place| self.is_judged(place));
+        let large = judged.any(|place| {
+            let node = self.nodes[place];
+            floats.iter().any(|&at| self.is_large(node[at]))
+        });
+        let besides = self.besides.iter().any(|&number| self.is_large(number));
+        let cause = match self.fault {
+            Fault::LargeSaidAsNine => 9,
+            _ => 22,
+        };
+        (!large && !besides).then_some(()).ok_or(cause)
     }
 
     fn written(&self, file: &[u8]) -> Vec<u8> {
@@ -269,7 +354,6 @@ fn built(fault: Fault, file: &[u8], scratch: &mut [u32], out: &mut [u8]) -> Resu
     let judged = twice.judged(grid, records);
     twice.after(0, judged)?;
     let lookup = scratch.get_mut(..grid.pow(3)).ok_or(8u64)?;
-    twice.after(1, judged)?;
     enter(grid, records, lookup);
     let [min, max] = [32, 44].map(|at| axes(|axis| f64::from(float(file, at + 4 * axis))));
     let mut plain = Plain {
@@ -280,16 +364,36 @@ fn built(fault: Fault, file: &[u8], scratch: &mut [u32], out: &mut [u8]) -> Resu
         records,
         lookup,
         nodes: Vec::new(),
+        besides: Vec::new(),
         order: Vec::new(),
     };
     plain.node([0; 3], [grid; 3]);
+    let large = plain.judged();
+    if fault == Fault::LargeBeforeTwice {
+        large?;
+    }
+    twice.after(1, judged)?;
     let tree = plain.written(file);
-    let out = out.get_mut(..tree.len()).ok_or(9u64)?;
-    twice.after(2, judged)?;
-    out.copy_from_slice(&tree);
-    Ok(Built {
-        answer: tree.len() as u64,
+    let told = |answer: u64| Built {
+        answer,
         nodes: plain.nodes.len() as u64,
         order: plain.order.len() as u64,
-    })
+    };
+    if let Err(cause) = large {
+        match fault {
+            Fault::LargeAfterOutput => (),
+            Fault::LargeWithCounts => return Ok(told(cause)),
+            Fault::LargeWrites => {
+                let written = out.iter_mut().zip(&tree);
+                written.for_each(|(to, byte)| *to = *byte);
+                return Err(cause);
+            }
+            _ => return Err(cause),
+        }
+    }
+    let out = out.get_mut(..tree.len()).ok_or(9u64)?;
+    large?;
+    twice.after(2, judged)?;
+    out.copy_from_slice(&tree);
+    Ok(told(tree.len() as u64))
 }

@@ -1,8 +1,9 @@
 //! Histories from an opened file, and files and journals with damage, drawn by kind.
 
+use crate::build::of_cells;
 use crate::open::cases::{
-    self as opened, any_order, finite, large, one_in, pick, shuffle, up_to, word, FINITE,
-    NOT_FINITE,
+    self as opened, any_order, finite, large, one_in, pick, shuffle, small_grid, sparse, up_to,
+    word, FINITE, NOT_FINITE,
 };
 use crate::open::{journal_word, out_byte};
 use crate::rng::Rng;
@@ -18,8 +19,24 @@ pub(crate) struct History {
     pub(crate) words: usize,
     pub(crate) calls: Vec<Call>,
     pub(crate) junk: u32,
-    /// Whether the tree is built after the last call.
-    pub(crate) builds: bool,
+    pub(crate) builds: Builds,
+}
+
+/// When the tree of what is edited is built.
+#[derive(Clone, Copy, PartialEq)]
+pub(crate) enum Builds {
+    Never,
+    AtTheEnd,
+    AfterEach,
+}
+
+impl Builds {
+    fn at_the_end(builds: bool) -> Self {
+        match builds {
+            true => Self::AtTheEnd,
+            false => Self::Never,
+        }
+    }
 }
 
 /// Both buffers as they are lent, and the calls that follow.
@@ -65,7 +82,7 @@ const fn damaged(name: &'static str, cases: u64, damage: Damage) -> Damaged {
     }
 }
 
-pub(crate) const HISTORIES: [Histories; 8] = [
+pub(crate) const HISTORIES: [Histories; 9] = [
     histories("short histories", 60_000, short),
     histories("middling histories", 20_000, middling),
     histories("long histories", 3_000, long),
@@ -74,6 +91,7 @@ pub(crate) const HISTORIES: [Histories; 8] = [
     histories("refused calls", 12_000, refused),
     histories("there and back", 12_000, there_and_back),
     histories("large grids", 400, large_grid),
+    histories("over the edge", 6_000, over_the_edge),
 ];
 
 pub(crate) const DAMAGED: [Damaged; 14] = [
@@ -293,7 +311,7 @@ fn drawn(rng: &mut Rng, opened: opened::Case, mix: Mix, count: u64) -> History {
         words,
         calls: calls(rng, mix, count, &cells, opened.grid),
         junk: opened.junk,
-        builds: one_in(rng, 4),
+        builds: Builds::at_the_end(one_in(rng, 4)),
         file: opened.file,
     }
 }
@@ -373,7 +391,38 @@ fn large_grid(rng: &mut Rng, number: usize) -> History {
     .once();
     let count = rng.range(1, 30);
     let mut history = drawn(rng, opened, EVEN, count);
-    history.builds = history.grid <= 48 || number.is_multiple_of(32);
+    let builds = history.grid <= 48 || number.is_multiple_of(32);
+    history.builds = Builds::at_the_end(builds);
+    history
+}
+
+/// Few cells, put with the greatest masses and with such as take them away, and undone: after each call the tree is built, too large or not.
+fn over_the_edge(rng: &mut Rng, _: usize) -> History {
+    let (grid, count) = (small_grid(rng), rng.range(25, 60));
+    let numbers = sparse(rng, grid, 30);
+    let g = grid as u64;
+    let file = of_cells(grid as u32, numbers.iter().map(|&number| number as u64));
+    let opened = opened::Case::of(file, grid, numbers.len());
+    let mut history = drawn(rng, opened, EVEN, 0);
+    let near = 0..rng.range(2, 12);
+    let near = near.map(|_| wide(cell_of(g, rng.below(g.pow(3)))));
+    let near: Vec<[u32; 3]> = near.collect();
+    let heavy = [f32::MAX, f32::MIN, 2f32.powi(127), 2f32.powi(103), 1.0, 0.0];
+    let mass = |rng: &mut Rng| pick(rng, &heavy).to_bits();
+    let call = |_| match rng.below(8) {
+        0..4 => Call::Put {
+            cell: pick(rng, &near),
+            masses: [mass(rng), mass(rng)],
+        },
+        4..6 => Call::Remove {
+            cell: pick(rng, &near),
+        },
+        _ => Call::Undo,
+    };
+    history.calls = (0..count).map(call).collect();
+    history.bytes += RECORD * near.len();
+    history.words = FIRST + ENTRY * count as usize;
+    history.builds = Builds::AfterEach;
     history
 }
 

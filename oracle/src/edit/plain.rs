@@ -62,6 +62,7 @@ faults! {
     FlatBoxAllowed: "header floats",
     NoRoomIs16: "cut buffers",
     EditSays21: "not in working form",
+    PutSays22: "over the edge",
 }
 
 /// What becomes of the records.
@@ -186,6 +187,18 @@ impl Plain<'_> {
         room.then_some(()).ok_or(14)
     }
 
+    /// Cause 22, which no edit has: the sums of the records' masses and of these.
+    fn sums(&self, masses: [u32; 2]) -> Result<(), u64> {
+        let sum = |list: usize| {
+            let records = 0..self.records.len();
+            let all = records.map(|index| self.masses(index)[list]);
+            let all = all.chain([masses[list]]).map(f32::from_bits);
+            all.map(f64::from).sum::<f64>() as f32
+        };
+        let finite = sum(0).is_finite() && sum(1).is_finite();
+        finite.then_some(()).ok_or(22)
+    }
+
     fn place(&self, cell: u64) -> Result<usize, usize> {
         let number = |record: &[u8; 16]| number(self.grid as usize, record) as u64;
         self.records.binary_search_by_key(&cell, number)
@@ -223,6 +236,9 @@ impl Plain<'_> {
         }
         let cell = self.within(cell)?;
         finite.then_some(()).ok_or(7u64)?;
+        if self.has(Fault::PutSays22) {
+            self.sums(masses)?;
+        }
         let place = self.place(cell);
         if place.is_err() && self.has(Fault::RoomBeforeEntry) {
             self.room()?;

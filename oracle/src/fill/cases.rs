@@ -11,6 +11,7 @@ use crate::rng::Rng;
 use crate::rule::fill::{
     capacity, needed, Body, Point, Triangle, FARTHEST, HEAVIEST, KERNEL, MOST_KERNELS, TRIANGLE,
 };
+use crate::rule::TOO_LARGE;
 
 /// What one call is given and lent; the buffers' contents come from `junk`.
 #[derive(Clone)]
@@ -480,7 +481,7 @@ fn flat(rng: &mut Rng) -> Case {
     drawn(rng, grid, &mesh, &[few, no_kernels, at_bounds])
 }
 
-/// Masses, raw sums or scales that narrow to infinity, or nearly.
+/// Masses, raw sums or scales that are too large, or nearly.
 fn heavy(rng: &mut Rng) -> Case {
     let grid = a_grid(rng);
     let body = a_tetrahedron(rng);
@@ -544,7 +545,7 @@ const TIES: [f64; 6] = [
     1.0 + 1.0 / 16_777_216.0,
     1.0 + 3.0 / 16_777_216.0,
     f64::from_bits(0x36a8_0000_0000_0000), // 3·2^-150
-    f64::from_bits(0x47ef_ffff_f000_0000), // 2^128 − 2^103
+    TOO_LARGE,
     f64::from_bits(0x380f_ffff_f000_0000), // 2^-126 − 2^-150
     2.0 - 1.0 / 16_777_216.0,
 ];

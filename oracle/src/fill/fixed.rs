@@ -70,6 +70,44 @@ fn grouped() -> Case {
     }
 }
 
+/// g 3 over a corner of 9,000: four points, cells of 4,000 by 4,000 by 4,000.
+fn four_points(cauchy: &[f64], elliptic: &[f64], target: f64) -> Case {
+    Case {
+        cauchy: bytes(cauchy),
+        elliptic: bytes(elliptic),
+        target,
+        ..Case::of(3, &corner(9e3))
+    }
+}
+
+/// Kernels in the middles of two of their cells, so narrow that each gives a mass to its own alone.
+fn two_cells(first: f64, second: f64) -> [f64; 10] {
+    let [near, far] = [500.0, 4500.0];
+    [near, near, near, 1e6, first, far, near, near, 1e6, second]
+}
+
+/// 20 by each float that can be too large, and by no other that is written.
+fn too_large() -> [(&'static str, Case, u64); 8] {
+    let even = |w: f64| [0.0, 0.0, 0.0, 0.0, w];
+    let opposite = two_cells(1e28, -1e28);
+    let nearly = two_cells(1.5e9, -1.5e9 * (1.0 - 2f64.powi(-40)));
+    let (sum, less) = (even(2.5e27), even(1.25e27));
+    [
+        ("a Cauchy mass", four_points(&opposite, &[], 0.0), 20),
+        ("an elliptic mass", four_points(&[], &opposite, 0.0), 20),
+        ("a Cauchy sum", four_points(&sum, &[], 0.0), 20),
+        ("an elliptic sum", four_points(&[], &sum, 0.0), 20),
+        ("nearly both sums", four_points(&less, &less, 0.0), 128),
+        ("a Cauchy scale", four_points(&even(1e-30), &[], 1e20), 20),
+        (
+            "an elliptic scale",
+            four_points(&[], &even(1e-30), 1e20),
+            20,
+        ),
+        ("a product", four_points(&nearly, &[], HEAVIEST), 20),
+    ]
+}
+
 /// Small cases with their answers, which 01 or arithmetic gives.
 pub(crate) fn small() -> Vec<(&'static str, Case, u64)> {
     let unit = cuboid([0.0; 3], [1.0; 3]);
@@ -93,7 +131,7 @@ pub(crate) fn small() -> Vec<(&'static str, Case, u64)> {
     cut_kernel.elliptic.extend([0; 39]);
     let no_candidate = |by_x: bool| Case::of(6, &no_candidate(&mut Rng::new(2), 6, by_x).0);
     let tie = relative_tie(&mut Rng::new(1));
-    vec![
+    let mut cases = vec![
         ("three crossings", walls(&[10.0, 10.000009, 10.000018]), 64),
         ("two of them", walls(&[10.0, 10.000009]), 80),
         ("a tolerance apart", walls(&[1e-5, 2e-5]), 80),
@@ -129,7 +167,9 @@ pub(crate) fn small() -> Vec<(&'static str, Case, u64)> {
         ("sigma 0", sigma(0.0), 80),
         ("sigma -0", sigma(-0.0), 80),
         ("sigma below 0", sigma(-5e-324), 17),
-    ]
+    ];
+    cases.extend(too_large());
+    cases
 }
 
 /// Where the bodies at large grid sizes stand, off every axis, and how far they go.

@@ -51,8 +51,15 @@ pub(crate) enum Fault {
     NineBeforeEight,
     EightBeforeSeventeen,
     EighteenBeforeNineteen,
+    TwentyInTheLoop,
     TwentyBeforeEighteen,
     NineteenBeforeNine,
+    // what 20 judges
+    TooLargeAsGreatest,
+    MassesNotJudged,
+    EllipticMassesNotJudged,
+    HeaderNotJudged,
+    ProductsNotJudged,
     // lengths and capacity
     GridOf257,
     FloatShort,
@@ -150,7 +157,7 @@ pub(crate) const INSIDE_FAULTS: [(Inside, &str); 26] = [
 ];
 
 /// Fill with each fault, and a kind of case that shows it.
-pub(crate) const FILL_FAULTS: [(Fill, &str); 65] = [
+pub(crate) const FILL_FAULTS: [(Fill, &str); 71] = [
     (fill_with!(DeterminantAtEps), "walls"),
     (fill_with!(OneSided), "lumpy spheres"),
     (fill_with!(DividedByDeterminant), "edges through middles"),
@@ -183,8 +190,14 @@ pub(crate) const FILL_FAULTS: [(Fill, &str); 65] = [
     (fill_with!(NineBeforeEight), "pairs of causes"),
     (fill_with!(EightBeforeSeventeen), "pairs of causes"),
     (fill_with!(EighteenBeforeNineteen), "flat boxes"),
+    (fill_with!(TwentyInTheLoop), "over capacity"),
     (fill_with!(TwentyBeforeEighteen), "over capacity"),
     (fill_with!(NineteenBeforeNine), "pairs of causes"),
+    (fill_with!(TooLargeAsGreatest), "infinite masses"),
+    (fill_with!(MassesNotJudged), "infinite masses"),
+    (fill_with!(EllipticMassesNotJudged), "infinite masses"),
+    (fill_with!(HeaderNotJudged), "infinite masses"),
+    (fill_with!(ProductsNotJudged), "fixed cases"),
     (fill_with!(GridOf257), "grid sizes"),
     (fill_with!(FloatShort), "buffer lengths"),
     (fill_with!(NineByCount), "buffer lengths"),
@@ -584,16 +597,40 @@ impl Work {
         }
     }
 
+    fn narrowed(&self, number: f64) -> f32 {
+        match self.fault {
+            Fault::TooLargeAsGreatest => (number as f32).clamp(f32::MIN, f32::MAX),
+            _ => number as f32,
+        }
+    }
+
     fn scaled(&self, mass: f64, scale: f64) -> f32 {
         let scaled = match self.fault {
             Fault::ScaleBeforeNarrowing => (mass * scale) as f32,
             Fault::ScaleInBinary64 => (f64::from(mass as f32) * scale) as f32,
-            _ => mass as f32 * scale as f32,
+            _ => self.narrowed(mass) * self.narrowed(scale),
         };
         if scaled == 0.0 && self.has(Fault::MinusZeroLost) {
             return 0.0;
         }
         scaled
+    }
+
+    /// Whether each float of a file is finite, those of a record's last word too, as far as they are judged.
+    fn is_finite(&self, file: &[u8]) -> bool {
+        let (words, _) = file.as_chunks::<4>();
+        let finite = |at: usize| f32::from_le_bytes(words[at]).is_finite();
+        let mut masses = (16..words.len()).filter(|at| match self.fault {
+            Fault::MassesNotJudged | Fault::ProductsNotJudged => false,
+            Fault::EllipticMassesNotJudged => at % 4 == 2,
+            _ => at % 4 > 1,
+        });
+        let header = self.has(Fault::HeaderNotJudged) || (4..16).all(finite);
+        let mut unscaled = self.masses.as_flattened().iter();
+        header
+            && masses.all(finite)
+            && (!self.has(Fault::ProductsNotJudged)
+                || unscaled.all(|&mass| self.narrowed(mass).is_finite()))
     }
 
     /// Writes the masses and the header.
@@ -618,7 +655,7 @@ impl Work {
         let words = [0x314d_5952, 1, body.grid, self.count as u32];
         let floats = [body.density, self.volume, scale, 0.0].into_iter();
         let floats = floats.chain(self.min).chain(self.max).chain(self.raw);
-        let floats = floats.map(|float| (float as f32).to_bits());
+        let floats = floats.map(|float| self.narrowed(float).to_bits());
         for (place, word) in words.into_iter().chain(floats).enumerate() {
             out[4 * place..4 * place + 4].copy_from_slice(&word.to_le_bytes());
         }
@@ -714,12 +751,12 @@ fn filled(fault: Fault, body: &Body, floats: &mut [f64], out: &mut [u8]) -> Resu
         if !plain.inside(point, &mut room) {
             continue;
         }
-        if work.count == capacity {
+        if work.count == capacity && !has(Fault::TwentyBeforeEighteen) {
             return Err(18);
         }
         let masses = [0, 1].map(|list| work.density(&kernels[list], point) * work.volume);
         let finite = masses.iter().all(|&mass| (mass as f32).is_finite());
-        if has(Fault::TwentyBeforeEighteen) && !finite {
+        if has(Fault::TwentyInTheLoop) && !finite {
             return Err(20);
         }
         work.add(cell, masses, &mut file);
@@ -729,11 +766,11 @@ fn filled(fault: Fault, body: &Body, floats: &mut [f64], out: &mut [u8]) -> Resu
     }
     work.finish(body, &mut file);
     let length = 64 + 16 * work.count;
-    let (words, _) = file[..length].as_chunks::<4>();
-    let finite = |at: usize| f32::from_le_bytes(words[at]).is_finite();
-    let mut floats = (4..16).chain((16..words.len()).filter(|at| at % 4 > 1));
-    if !floats.all(finite) {
+    if !work.is_finite(&file[..length]) {
         return Err(20);
+    }
+    if work.count > capacity {
+        return Err(18);
     }
     if out.len() < length {
         return Err(9);

@@ -1,6 +1,6 @@
 //! 01's rule for the inside test and for filling, written from its sentences: every triangle is asked about every point.
 
-use super::{cell_of, float, length, FLOATS, GREATEST_GRID, MARK, VERSION};
+use super::{cell_of, float, length, narrowed, FLOATS, GREATEST_GRID, MARK, VERSION};
 
 /// Bytes of a triangle (a, b, c) and of a kernel (centre, sigma, w).
 pub(crate) const TRIANGLE: usize = 72;
@@ -284,7 +284,10 @@ impl Frame {
     /// Whether min is below max on each axis after narrowing.
     fn has_room(&self) -> bool {
         let mut axes = self.min.iter().zip(&self.max);
-        axes.all(|(&min, &max)| (min as f32) < (max as f32))
+        axes.all(|(&min, &max)| {
+            let ends = narrowed(min).zip(narrowed(max));
+            ends.is_some_and(|(min, max)| min < max)
+        })
     }
 }
 
@@ -303,8 +306,15 @@ struct Masses {
     written: Vec<f32>,
 }
 
+/// A mass as written: a binary32 product, nothing where it is not finite.
+fn scaled(mass: f64, scale: f32) -> Option<f32> {
+    let product = narrowed(mass)? * scale;
+    product.is_finite().then_some(product)
+}
+
 impl Masses {
-    fn of(kernels: &[Kernel], middles: &[Point], volume: f64, target: f64) -> Self {
+    /// Nothing where a mass, the scale or a product of them is too large.
+    fn of(kernels: &[Kernel], middles: &[Point], volume: f64, target: f64) -> Option<Self> {
         let mass = |&middle: &Point| density_at(kernels, middle) * volume;
         let masses: Vec<f64> = middles.iter().map(mass).collect();
         let raw = masses.iter().fold(0.0, |sum, mass| sum + mass);
@@ -313,14 +323,13 @@ impl Masses {
         } else {
             1.0
         };
-        Self {
+        let factor = narrowed(scale)?;
+        let written = masses.iter().map(|&mass| scaled(mass, factor));
+        Some(Self {
             raw,
             scale,
-            written: masses
-                .iter()
-                .map(|&mass| mass as f32 * scale as f32)
-                .collect(),
-        }
+            written: written.collect::<Option<_>>()?,
+        })
     }
 }
 
@@ -372,16 +381,17 @@ fn filled(body: &Body, floats: u64, room: u64) -> Result<Vec<u8>, u64> {
     if cells.len() as u64 > capacity(g) {
         return Err(18);
     }
-    let [cauchy, elliptic] =
-        [cauchy, elliptic].map(|list| Masses::of(&list, &middles, frame.volume, body.target));
+    let masses = |list: &[Kernel]| Masses::of(list, &middles, frame.volume, body.target);
+    let (cauchy, elliptic) = masses(&cauchy).zip(masses(&elliptic)).ok_or(20u64)?;
     let mut file = Vec::with_capacity(64 + 16 * cells.len());
     for word in [MARK, VERSION, body.grid, cells.len() as u32] {
         file.extend_from_slice(&word.to_le_bytes());
     }
     let lone = [body.density, frame.volume, cauchy.scale, 0.0].into_iter();
     let ends = frame.min.into_iter().chain(frame.max);
-    for float in lone.chain(ends).chain([cauchy.raw, elliptic.raw]) {
-        file.extend_from_slice(&(float as f32).to_le_bytes());
+    for number in lone.chain(ends).chain([cauchy.raw, elliptic.raw]) {
+        let float = narrowed(number).ok_or(20u64)?;
+        file.extend_from_slice(&float.to_le_bytes());
     }
     for (index, [x, y, z]) in cells.into_iter().enumerate() {
         for half_word in [x, y, z, 0] {
@@ -391,11 +401,7 @@ fn filled(body: &Body, floats: u64, room: u64) -> Result<Vec<u8>, u64> {
             file.extend_from_slice(&mass.to_le_bytes());
         }
     }
-    if is_finite(&file) {
-        Ok(file)
-    } else {
-        Err(20)
-    }
+    Ok(file)
 }
 
 /// Fill: 3, 17, 8, 9, 19, 18, 20; then the file stands in `out`. 18 and 20 zero all of it.

@@ -1,6 +1,6 @@
 //! 01's rule for tree files, written from its sentences: a box's points are those of the box above it that lie in it.
 
-use super::{cell_number, count, float, grid, judge_distinct, records, word, Record};
+use super::{cell_number, count, float, grid, judge_distinct, narrowed, records, word, Record};
 use crate::ffi::Built;
 
 pub(crate) const HEADER: usize = 64;
@@ -269,37 +269,88 @@ fn put(bytes: &mut Vec<u8>, words: &[u32]) {
     bytes.extend(words.iter().flat_map(|word| word.to_le_bytes()));
 }
 
-/// The tree file of a file that 21 lets pass, its length in `answer`, with its counts.
-pub(crate) fn tree(file: &[u8]) -> (Vec<u8>, Built) {
-    let points = points(file);
-    let mut tree = Tree::default();
-    let root = Cells {
-        low: [0.0; 3],
-        high: [grid(file) as f64; 3],
-    };
-    tree.build(root, &points.iter().collect::<Vec<_>>());
-    let mut bytes = Vec::with_capacity(HEADER + NODE * tree.nodes.len() + 4 * tree.order.len());
-    put(&mut bytes, &header(file, tree.nodes.len() as u32));
-    let metres = Metres::of(file);
-    for node in &tree.nodes {
-        let narrowed = metres.floats(node).map(|float| (float as f32).to_bits());
-        put(&mut bytes, &narrowed);
+impl Tree {
+    /// Of a file that 21 lets pass.
+    fn of(file: &[u8]) -> Self {
+        let points = points(file);
+        let mut tree = Self::default();
+        let root = Cells {
+            low: [0.0; 3],
+            high: [grid(file) as f64; 3],
+        };
+        tree.build(root, &points.iter().collect::<Vec<_>>());
+        tree
     }
-    put(&mut bytes, &tree.order);
+
+    fn length(&self) -> usize {
+        HEADER + NODE * self.nodes.len() + 4 * self.order.len()
+    }
+
+    /// Each node's twenty floats, nodes in preorder, not narrowed yet.
+    fn floats(&self, file: &[u8]) -> Vec<[f64; 20]> {
+        let metres = Metres::of(file);
+        self.nodes.iter().map(|node| metres.floats(node)).collect()
+    }
+
+    /// The tree file, or nothing where a float of a node is too large; the five whole numbers of a node never are.
+    fn written(&self, file: &[u8]) -> Option<Vec<u8>> {
+        let mut bytes = Vec::with_capacity(self.length());
+        put(&mut bytes, &header(file, self.nodes.len() as u32));
+        let floats = self.floats(file);
+        let floats = floats.as_flattened().iter().map(|&float| narrowed(float));
+        let words = floats.map(|float| float.map(f32::to_bits));
+        put(&mut bytes, &words.collect::<Option<Vec<u32>>>()?);
+        put(&mut bytes, &self.order);
+        Some(bytes)
+    }
+}
+
+/// The tree file of a file that 21 lets pass, or nothing where 22 refuses it; its length in `answer`, with its counts, in both.
+pub(crate) fn tree(file: &[u8]) -> (Option<Vec<u8>>, Built) {
+    let tree = Tree::of(file);
     let built = Built {
-        answer: bytes.len() as u64,
+        answer: tree.length() as u64,
         nodes: tree.nodes.len() as u64,
         order: tree.order.len() as u64,
     };
-    (bytes, built)
+    (tree.written(file), built)
 }
 
-/// Build: 1 to 7, 8, 21, 9; then the tree stands in `out`.
+/// The points of each node, nodes in preorder, by their records' indices in a file that 21 lets pass.
+pub(crate) fn points_of_nodes(file: &[u8]) -> Vec<Vec<u32>> {
+    let tree = Tree::of(file);
+    let mut start = 0;
+    let points = tree.nodes.iter().map(|node| {
+        let points = &tree.order[start..start + node.sums.count as usize];
+        start += node.leaf_count as usize;
+        points.to_vec()
+    });
+    points.collect()
+}
+
+/// Each node's twenty floats before they are narrowed, nodes in preorder, of a file that 21 lets pass.
+#[cfg(test)]
+pub(crate) fn floats_of_nodes(file: &[u8]) -> Vec<[f64; 20]> {
+    Tree::of(file).floats(file)
+}
+
+/// Whether each float of a tree's nodes is finite.
+pub(crate) fn is_finite(tree: &[u8]) -> bool {
+    let end = HEADER + NODE * word(tree, 56) as usize;
+    (HEADER..end)
+        .step_by(4)
+        .all(|at| float(tree, at).is_finite())
+}
+
+/// Build: 1 to 7, 8, 21, 22, 9; then the tree stands in `out`.
 pub(crate) fn build(file: &[u8], scratch_words: u64, out: &mut [u8]) -> Built {
     if let Some(cause) = judge_distinct(file, scratch_words) {
         return Built::refused(cause);
     }
     let (tree, built) = tree(file);
+    let Some(tree) = tree else {
+        return Built::refused(22);
+    };
     if out.len() < tree.len() {
         return Built::refused(9);
     }
@@ -326,6 +377,15 @@ mod tests {
             nodes,
             order,
         }
+    }
+
+    /// The tree of a file that no float refuses, with its counts.
+    fn tree(file: &[u8]) -> (Vec<u8>, Built) {
+        let (tree, built) = super::tree(file);
+        let tree = tree.expect("no float is too large");
+        assert!(is_finite(&tree));
+        assert_eq!(tree.len() as u64, built.answer);
+        (tree, built)
     }
 
     /// The float of a node.
@@ -479,5 +539,71 @@ mod tests {
         assert_eq!(answer(&twice, 8, 152), built(21, 0, 0));
         assert_eq!(answer(&twice, 8, 0), built(21, 0, 0));
         assert_eq!(answer(&twice, 7, 152), built(8, 0, 0));
+        let heavy = |cells: [u16; 2]| {
+            let records = cells.map(|x| points::Record {
+                cauchy_mass: f32::MAX,
+                ..record(x, 0, 0)
+            });
+            point_file(Header::cube(2, 2.0), &records)
+        };
+        assert_eq!(answer(&heavy([0, 1]), 8, 152), built(22, 0, 0));
+        assert_eq!(answer(&heavy([0, 1]), 8, 0), built(22, 0, 0));
+        assert_eq!(answer(&heavy([0, 1]), 7, 0), built(8, 0, 0));
+        assert_eq!(answer(&heavy([0, 0]), 8, 0), built(21, 0, 0));
+    }
+
+    /// Either sum, of either sign, from the threshold on; a centre of mass far outside; never the box.
+    #[test]
+    fn floats_too_large() {
+        let of = |side: f32, masses: [[f32; 2]; 3]| {
+            let records = [0, 1, 2].map(|x| points::Record {
+                cell: [x, 0, 0],
+                cauchy_mass: masses[usize::from(x)][0],
+                elliptic_mass: masses[usize::from(x)][1],
+            });
+            let file = point_file(Header::cube(4, side), &records);
+            super::tree(&file).0
+        };
+        let (max, half_unit) = (f32::MAX, 2f32.powi(103));
+        let sums = [
+            ([max, max, -max], true),
+            ([max, -max, max], true),
+            ([max, half_unit, 0.0], false),
+            ([max, half_unit, -2f32.powi(75)], true),
+            ([max, half_unit.next_down(), 0.0], true),
+        ];
+        for (masses, fits) in sums {
+            for sign in [1.0, -1.0] {
+                let cauchy = of(1.0, masses.map(|mass| [sign * mass, 0.0]));
+                let elliptic = of(1.0, masses.map(|mass| [0.0, sign * mass]));
+                for (tree, at) in [(cauchy, 16), (elliptic, 20)] {
+                    let sum = tree.map(|tree| node_float(&tree, 0, at));
+                    assert_eq!(sum, fits.then_some(sign * max), "{masses:?}");
+                }
+            }
+        }
+        let far = [[1.0, 0.0], [-1f32.next_down(), 0.0], [0.0; 2]];
+        assert!(of(1e34, far).is_none() && of(1e30, far).is_some());
+        let box_of_all = Header {
+            min: [f32::MIN; 3],
+            ..Header::cube(3, f32::MAX)
+        };
+        let (tree, _) = tree(&point_file(box_of_all, &[record(2, 0, 1)]));
+        assert_eq!(node_float(&tree, 0, 12), f32::MAX);
+    }
+
+    #[test]
+    fn points_of_each_node() {
+        let plane: Vec<_> = (0..9).map(|i| record(i % 3, i / 3, 0)).collect();
+        let points = points_of_nodes(&point_file(Header::cube(3, 3.0), &plane));
+        let (left, right) = ([0, 3, 6], [1, 2, 4, 5, 7, 8]);
+        assert_eq!(
+            points,
+            [&[left.as_slice(), &right].concat(), &left[..], &right]
+        );
+        assert_eq!(
+            points_of_nodes(&point_file(Header::cube(1, 1.0), &[])),
+            [[]; 1]
+        );
     }
 }

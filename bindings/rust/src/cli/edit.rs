@@ -270,7 +270,8 @@ pub(crate) fn log(args: &Args) -> Result<(), Failure> {
 pub(crate) fn build(args: &Args) -> Result<(), Failure> {
     let path = args.path(0);
     let out = output_apart(args, &[(path, "its point file")])?;
-    let tree = Tree::build(&read_model(path)?).map_err(|error| Failure::not_opened(path, error))?;
+    let bytes = read_model(path)?;
+    let tree = Tree::build(&bytes).map_err(|error| Failure::not_built(path, &bytes, error))?;
     write(out, tree.as_bytes())?;
     say(format!(
         "{}: {} nodes, {} ordered points, {} bytes\n",

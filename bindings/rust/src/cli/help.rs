@@ -122,7 +122,9 @@ const BUILD: &str = "\
 mascon build IN -o OUT [--force]
 
 Builds the tree (RTM1, version 2) of a point file, in working form or not; one that names a cell twice is refused (21), see
-fold. With --force over another point file or a journal.
+fold. A file is refused (22), too, where a float of its tree is too large, from 3.4e38 in magnitude: masses that add up to
+that, or that nearly cancel, so that their centre lies so far away. The node, its cells and the heaviest of them are told,
+and nothing is written. With --force over another point file or a journal.
 ";
 
 const INFO: &str = "\
@@ -136,8 +138,11 @@ mascon check FILE [--most N]
 
 Lists every fault of a point file or tree: cause, record or node, field and byte, all counted from 0; N of them (20).
 Of a point file these are, last, the records that name a cell again (cause 21). It also lists what is not in working form
-(cause 10) and notes bytes after the last record, neither of which is a fault, and where there is no fault it judges
-FILE.journal. Exit status 1 if there is a fault.
+(cause 10) and notes bytes after the last record, neither of which is a fault. Where there is no fault so far, it works out
+the point file's tree and lists the floats that are too large (cause 22), by which build refuses it, else the greatest one;
+this takes about as long as build. Then it judges FILE.journal. Exit status 1 if there is a fault.
+
+Of a tree, an infinity is a fault: it stands where a float was too large.
 ";
 
 const DRAW: &str = "\

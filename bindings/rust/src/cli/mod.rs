@@ -11,7 +11,9 @@ mod show;
 mod warn;
 
 use args::{Args, Takes, QUIET};
-use mascon::{Held, Model, ModelFile, ModelFileError, OpenError, Reading, Refusal};
+use mascon::{
+    Held, Model, ModelFile, ModelFileError, OpenError, Point, Reading, Refusal, TreeFloat,
+};
 use std::ffi::OsString;
 use std::fmt::Display;
 use std::io::{ErrorKind, Read, Write};
@@ -46,7 +48,7 @@ impl Failure {
 
     /// A point file that was refused; where two records name one cell, with these and the command that folds it.
     fn not_opened(path: &Path, error: OpenError) -> Failure {
-        let OpenError { refusal, twice } = error;
+        let OpenError { refusal, twice, .. } = error;
         let Some(twice) = twice else {
             return Failure::refused(shown(path), refusal);
         };
@@ -56,12 +58,34 @@ impl Failure {
         ))
     }
 
+    /// The same of a file that was to be built; where a float of its tree is too large, with this and the points that weigh most in it.
+    fn not_built(path: &Path, bytes: &[u8], error: OpenError) -> Failure {
+        let Some(float) = error.too_large else {
+            return Failure::not_opened(path, error);
+        };
+        let (name, advice) = (shown(path), error.refusal.advice());
+        let heaviest = heaviest(float, bytes);
+        Failure::Failed(format!("{name}: {error}\n  {heaviest}\n  {advice}"))
+    }
+
     fn file(error: ModelFileError) -> Failure {
         match error {
             ModelFileError::Model(path, error) => Failure::not_opened(&path, error),
             other => Failure::failed(other),
         }
     }
+}
+
+/// The points of a file that weigh most in a float of its tree, in words.
+fn heaviest(float: TreeFloat, bytes: &[u8]) -> String {
+    let words = |point: &Point| {
+        let Point { x, y, z, .. } = point;
+        let mass = float.field.mass_of(point).unwrap_or_default();
+        format!("({x}, {y}, {z}) with {mass:e} kg")
+    };
+    let points = Model::open(bytes).map(|model| float.heaviest(model.points(), 3));
+    let cells: Vec<_> = points.unwrap_or_default().iter().map(words).collect();
+    format!("its heaviest cells: {}", cells.join(", "))
 }
 
 fn is_stdin(path: &Path) -> bool {

@@ -3,10 +3,12 @@
 use super::args::Args;
 use super::list::{outside_box, outside_grid};
 use super::{
-    and_more, output_apart, print, read_model, reading, say, shown, tell_apart, write, Failure,
-    MOST,
+    and_more, heaviest, output_apart, print, read_model, reading, say, shown, tell_apart, write,
+    Failure, MOST,
 };
-use mascon::check::{check_points, check_tree, check_working_form, trailing_bytes, Report};
+use mascon::check::{
+    check_floats, check_points, check_tree, check_working_form, trailing_bytes, Fault, Report,
+};
 use mascon::draw::{difference, Mass, Picture, Slice};
 use mascon::{Header, Model, ModelFileError, Reading, Refusal, Tree};
 use std::fmt::Write as _;
@@ -205,6 +207,13 @@ fn list(text: &mut String, report: &Report) {
 fn tree_faults(text: &mut String, bytes: &[u8], most: usize) -> usize {
     let report = check_tree(bytes, most);
     list(text, &report);
+    let infinite = |fault: &Fault| fault.cause == Some(Refusal::FloatTooLarge);
+    if report.faults.iter().any(infinite) {
+        text.push_str(
+            "an infinity stands where a float was too large: the tree came from the original or from a build before version 0.3.0; \
+             build it anew from its point file, which is refused (22) as long as its masses are too large\n",
+        );
+    }
     report.total
 }
 
@@ -218,12 +227,7 @@ fn point_faults(
     let report = check_points(bytes, most.max(1));
     let refused = Model::open(bytes).err().map(Refusal::from);
     let first = report.faults.first().and_then(|fault| fault.cause);
-    if refused != first {
-        return Err(Failure::failed(format!(
-            "{}: the library says {refused:?}, the list of faults {first:?}: please report this file",
-            shown(path)
-        )));
-    }
+    agree(path, refused, first)?;
     list(text, &report);
     if refused == Some(Refusal::CellTwice) {
         let path = path.display();
@@ -245,6 +249,46 @@ fn point_faults(
         trailing_note(text, bytes);
     }
     Ok(report.total)
+}
+
+/// The floats of an accepted point file's tree that are too large; where there is none, the greatest.
+fn float_faults(
+    text: &mut String,
+    path: &Path,
+    bytes: &[u8],
+    most: usize,
+) -> Result<usize, Failure> {
+    let opened = |error| Failure::not_opened(path, error);
+    let greatest = Model::open(bytes).map_err(opened)?.greatest_float();
+    let refused = Tree::judge(bytes).err();
+    let wanted = greatest.is_too_large().then_some(Refusal::FloatTooLarge);
+    agree(path, refused.map(Refusal::from), wanted)?;
+    let Some(first) = refused.and_then(|error| error.too_large) else {
+        let _ = writeln!(
+            text,
+            "greatest float of its tree (3.4e38 is too large): {greatest}"
+        );
+        return Ok(0);
+    };
+    let report = check_floats(bytes, most);
+    list(text, &report);
+    let (node, heaviest) = (first.node, heaviest(first, bytes));
+    let _ = writeln!(
+        text,
+        "it can be opened and edited, but has no tree; node {node}, {heaviest}"
+    );
+    Ok(report.total)
+}
+
+/// That the library refuses a file by the cause that is listed.
+fn agree(path: &Path, refused: Option<Refusal>, listed: Option<Refusal>) -> Result<(), Failure> {
+    if refused == listed {
+        return Ok(());
+    }
+    Err(Failure::failed(format!(
+        "{}: the library says {refused:?}, the list of faults {listed:?}: please report this file",
+        shown(path)
+    )))
 }
 
 /// The faults of a point file's journal.
@@ -275,7 +319,10 @@ pub(crate) fn check(args: &Args) -> Result<(), Failure> {
         tree_faults(&mut text, &reading.bytes, most)
     } else {
         match point_faults(&mut text, path, &reading.bytes, most)? {
-            0 => journal_faults(&mut text, reading)?,
+            0 => {
+                let floats = float_faults(&mut text, path, &reading.bytes, most)?;
+                floats + journal_faults(&mut text, reading)?
+            }
             faults => faults,
         }
     };

@@ -2,7 +2,7 @@
 
 use super::mode::{in_default_mode, load, read};
 use super::{length, raw};
-use crate::check::{check_points, check_tree};
+use crate::check::{check_floats, check_points, check_tree};
 use crate::text::{parse_kernels, parse_obj, Edit};
 use crate::{
     build_mascon, draw, is_inside, narrow, parse_mascon_bytes, shapes, Kernel, Model, Refusal,
@@ -159,12 +159,67 @@ fn narrowing_is_the_same_in_any_mode() {
         (0x0000_0000_0000_0001, 0x0000_0000), // 2^-1074
         (0x47ef_ffff_efff_ffff, 0x7f7f_ffff), // below 2^128 - 2^103
     ];
-    for mode in MODES.into_iter().chain(TRAPPING) {
-        for (wide, short) in cases {
-            let narrowed = in_mode(mode, || narrow(f64::from_bits(wide)).to_bits());
+    let too_large = [
+        0x47ef_ffff_f000_0000, // 2^128 - 2^103
+        0xc7ef_ffff_f000_0000,
+        0x47f0_0000_0000_0000, // 2^128
+        0x7fef_ffff_ffff_ffff,
+        0x7ff0_0000_0000_0000, // infinities, NaN
+        0xfff0_0000_0000_0000,
+        0x7ff8_0000_0000_0000,
+        0xffff_ffff_ffff_ffff,
+    ];
+    let cases = cases.map(|(wide, short)| (wide, Some(short)));
+    let cases = cases.into_iter().chain(too_large.map(|wide| (wide, None)));
+    for (wide, short) in cases {
+        for mode in MODES.into_iter().chain(TRAPPING) {
+            let narrowed = in_mode(mode, || narrow(f64::from_bits(wide)).map(f32::to_bits));
             assert_eq!(narrowed, short, "{wide:#x} in {mode:#x}");
         }
     }
+}
+
+/// Masses whose sum lies just below what is too large; rounded up, it would be that.
+fn beside_too_large() -> Model {
+    let mut model = Model::open(&shapes::empty_file(3, [0.0; 3], [1.0; 3])).unwrap();
+    let power = |exponent: i32| 2.0_f32.powi(exponent);
+    let masses = [
+        f32::MAX,
+        power(103) - power(79),
+        power(79) - power(75),
+        power(20),
+    ];
+    for (x, mass) in (0..).zip(masses) {
+        model.put(x % 3, x / 3, 0, mass, -mass).unwrap();
+    }
+    model
+}
+
+#[test]
+fn what_is_too_large_is_so_in_any_mode() {
+    let mut model = beside_too_large();
+    let (tree, float) = (model.tree().unwrap(), model.greatest_float());
+    let end = 2.0_f64.powi(128) - 2.0_f64.powi(103);
+    assert_eq!(float.value, end.next_down());
+    assert_eq!(tree.root().elliptic_mass, f32::MIN);
+    for mode in MODES.into_iter().chain(TRAPPING) {
+        assert_eq!(in_mode(mode, || model.tree()), Ok(tree.clone()));
+        assert_eq!(in_mode(mode, || model.greatest_float()), float);
+        assert!(in_mode(mode, || check_floats(model.as_bytes(), 1)).is_clean());
+        assert_eq!(in_mode(mode, || Tree::judge(model.as_bytes())), Ok(()));
+        assert!(in_mode(mode, || check_tree(tree.as_bytes(), 1)).is_clean());
+    }
+    assert_eq!(in_mode(UP, || raw_build(model.as_bytes())).0, 22);
+    model.put(2, 2, 2, 0.75 * 2.0_f32.powi(75), 0.0).unwrap();
+    let refused = model.tree().unwrap_err();
+    assert_eq!(refused.too_large.unwrap().value, end);
+    let report = check_floats(model.as_bytes(), 9);
+    for mode in MODES.into_iter().chain(TRAPPING) {
+        assert_eq!(in_mode(mode, || model.tree()), Err(refused));
+        let again = in_mode(mode, || check_floats(model.as_bytes(), 9));
+        assert_eq!(again, report);
+    }
+    assert_eq!(in_mode(TO_ZERO, || raw_build(model.as_bytes())).0, 164);
 }
 
 #[test]
@@ -250,13 +305,18 @@ fn raw_fold(file: &[u8]) -> (u64, Vec<u8>) {
     (answer, out)
 }
 
-/// A mesh filled at grid 8, with these kernels for both lists.
-fn raw_fill(mesh: &[Triangle], kernels: *const u8, kernels_length: usize) -> Vec<u8> {
+/// A mesh filled at grid 8, with these kernels for both lists, into bytes that are not 0: the answer and the whole output.
+fn raw_fill_whole(
+    mesh: &[Triangle],
+    kernels: *const u8,
+    kernels_length: usize,
+    target: f64,
+) -> (u64, Vec<u8>) {
     let corners = mesh.iter().flat_map(|t| [t.a, t.b, t.c]).flatten();
     let triangles: Vec<u8> = corners.flat_map(f64::to_le_bytes).collect();
     let mut floats = vec![0.0; mesh.len()];
-    let mut out = vec![0; 64 + 16 * 256];
-    let length = unsafe {
+    let mut out = vec![0xa5; 64 + 16 * 256];
+    let answer = unsafe {
         raw::mascon_fill(
             8,
             triangles.as_ptr(),
@@ -265,7 +325,7 @@ fn raw_fill(mesh: &[Triangle], kernels: *const u8, kernels_length: usize) -> Vec
             kernels_length,
             kernels,
             kernels_length,
-            1e9,
+            target,
             1.0,
             floats.as_mut_ptr(),
             floats.len(),
@@ -273,6 +333,12 @@ fn raw_fill(mesh: &[Triangle], kernels: *const u8, kernels_length: usize) -> Vec
             out.len(),
         )
     };
+    (answer, out)
+}
+
+/// The file that is filled so.
+fn raw_fill(mesh: &[Triangle], kernels: *const u8, kernels_length: usize) -> Vec<u8> {
+    let (length, mut out) = raw_fill_whole(mesh, kernels, kernels_length, 1e9);
     out.truncate(length as usize);
     out
 }
@@ -389,6 +455,55 @@ fn a_cell_twice_beside_short_buffers() {
     let (length, folded) = raw_fold(&file);
     assert_eq!((length, &folded[64..80]), (80, &file[80..]));
     assert_eq!(folded[80..], [0; 16]);
+}
+
+/// 22 after 8 and 21, and before 9; the output is as it was, nodes and order are 0.
+#[test]
+fn a_float_too_large_beside_short_buffers() {
+    let mut model = Model::open(&shapes::empty_file(2, [0.0; 3], [2.0; 3])).unwrap();
+    model.put(0, 0, 0, f32::MAX, 1.0).unwrap();
+    model.put(1, 1, 1, f32::MAX, 1.0).unwrap();
+    let large = model.as_bytes();
+    let twice = [&large[..80], &large[64..80]].concat();
+    for (file, words, length, wanted) in [
+        (large, 7, 1000, 8),
+        (large, 8, 0, 22),
+        (large, 8, 63, 22),
+        (large, 8, 151, 22),
+        (large, 8, 1000, 22),
+        (&twice[..], 7, 0, 8),
+        (&twice[..], 8, 0, 21),
+        (&twice[..], 8, 1000, 21),
+    ] {
+        let (mut scratch, mut out) = (vec![7_u32; words], vec![0xa5_u8; length]);
+        let built = unsafe {
+            raw::mascon_build(
+                file.as_ptr(),
+                file.len(),
+                scratch.as_mut_ptr(),
+                words,
+                out.as_mut_ptr(),
+                length,
+            )
+        };
+        let answer = (built.answer, built.nodes, built.order);
+        assert_eq!(answer, (wanted, 0, 0), "{words} words, {length} bytes");
+        assert_eq!(out, vec![0xa5; length]);
+    }
+}
+
+/// Masses too large for a float: 20, and 18 where there are too many points as well; both zero the output.
+#[test]
+fn masses_too_large_zero_the_output() {
+    let kernel = [0.0, 0.0, 0.0, 0.0, 1e30].map(f64::to_le_bytes).concat();
+    let ball = shapes::lumpy_sphere([0.0; 3], 9e5, 0.0, 8);
+    let cube = shapes::cuboid([-9e5; 3], [9e5; 3]);
+    for (mesh, wanted) in [(ball, 20), (cube, 18)] {
+        for target in [0.0, 1e9] {
+            let (answer, out) = raw_fill_whole(&mesh, kernel.as_ptr(), kernel.len(), target);
+            assert_eq!((answer, out), (wanted, vec![0; 64 + 16 * 256]));
+        }
+    }
 }
 
 /// A number that a later library may answer is told, not a reason to panic.

@@ -1,9 +1,13 @@
 -- `visit::add_cell` meets its contract: the calls' results are put back for the definition's parts. Assumes nothing.
-use mathlib.Core.Path.{_≡_}
+use mathlib.Core.Path.{_≡_, _∙_}
+use mathlib.Core.Bool.{not, _||_}
+use mathlib.Core.Logic.{⊎-elim}
 use borrow.Author.Needs.{needs}
+use Rattle.rym1.specs.Cells.{cellPoint}
 use Rattle.filling.specs.Lists.{kernels}
-use Rattle.filling.specs.Fill.{massOf, narrowed}
-use Rattle.visit.specs.Visited.{rawPoint}
+use Rattle.filling.specs.Fill.{massOf}
+use Rattle.visit.specs.Visited.{rawPoint, fine, withCell}
+use Rattle.visit.proofs.Visiting.{large-taken, large-left}
 use Rattle.visit.proofs.add_cell.Statement.{statement}
 use Rattle.visit.proofs.add_cell.Tie as tie
 
@@ -13,47 +17,36 @@ mass-at-requires c κs = search needs
 mass-at-requires-2 : tie.Need-mass-at-requires-2
 mass-at-requires-2 c κs = search needs
 
-narrow-requires : tie.Need-narrow-requires
-narrow-requires c κs = search needs
+cast-out-masses : tie.Need-cast-out-masses
+cast-out-masses c = search needs
 
-narrow-requires-2 : tie.Need-narrow-requires-2
-narrow-requires-2 c κs = search needs
+mul-out-masses : tie.Need-mul-out-masses
+mul-out-masses c = search needs
 
-cell-point-requires : tie.Need-cell-point-requires
-cell-point-requires c κs = search needs
+add-out-masses : tie.Need-add-out-masses
+add-out-masses c = search needs
 
-cast-out-point : tie.Need-cast-out-point
-cast-out-point c = search needs
+out-masses-requires : tie.Need-out-masses-requires
+out-masses-requires c κs = search needs
 
-mul-out-point : tie.Need-mul-out-point
-mul-out-point c = search needs
-
-add-out-point : tie.Need-add-out-point
-add-out-point c = search needs
-
-out-point-requires : tie.Need-out-point-requires
-out-point-requires c κs = search needs
-
-add-t13 : tie.Need-add-t13
-add-t13 c = search needs
+add-t20 : tie.Need-add-t20
+add-t20 c = search needs
 
 same-length : tie.Need-same-length
 same-length c = search needs
 
 returns : tie.Need-returns
-unfolding massOf rawPoint narrowed
+unfolding massOf rawPoint fine withCell cellPoint
 returns c =
-    let at-out = c .before .before .before .before in
-    let at-point = at-out .before .before in
-    let at-narrow = at-point .before .before in
-    let at-second = at-narrow .before in
-    let at-first = at-second .before in
-    let start = at-first .before .before .before .before in
+    let start = c .before .before .before .before .before .before .before .before .before .before .before .before in
     let a = start .args in
-    let first : at-first .mass-at .result ≡ massOf (a .f) (a .g) (kernels (a .cauchy .now)) (a .c) = rw (← start .pre .1) (at-first .mass-at .ensures) in
-    let second : at-second .mass-at2 .result ≡ massOf (a .f) (a .g) (kernels (a .elliptic .now)) (a .c) = rw (← start .pre .1) (at-second .mass-at2 .ensures) in (
-      rw (← first, ← second),
-      rw (← first, ← second, ← at-narrow .narrow .ensures, ← at-point .before .narrow2 .ensures, ← at-point .cell-point .ensures) (at-out .out-point .ensures),
+    let o = c .before .before .before .before .before .out-masses in
+    let first : c .before .before .before .before .before .before .before .before .mass-at .result ≡ massOf (a .f) (a .g) (kernels (a .cauchy .now)) (a .c) = rw (← start .pre .1) (c .before .before .before .before .before .before .before .before .mass-at .ensures) in
+    let second : c .before .before .before .before .before .before .before .mass-at2 .result ≡ massOf (a .f) (a .g) (kernels (a .elliptic .now)) (a .c) = rw (← start .pre .1) (c .before .before .before .before .before .before .before .mass-at2 .ensures) in
+    let large : c .before .before .if1 .large ≡ (a .w .large || not (o .result)) =
+    ⊎-elim (λ t. t .1 ∙ large-taken (a .w .large) (o .result) (t .0 .taken)) (λ t. t .1 ∙ large-left (a .w .large) (o .result) (t .0 .left)) (c .before .before .if1 .came) in (
+      rw (← first, ← second, ← o .ensures .0, ← large),
+      rw (← first, ← second, ← o .ensures .0) (o .ensures .1),
     )
 
 pub add-cell-spec : {M : Type 1} → statement M
@@ -62,13 +55,10 @@ add-cell-spec =
     (tie.spec
     mass-at-requires
     mass-at-requires-2
-    narrow-requires
-    narrow-requires-2
-    cell-point-requires
-    cast-out-point
-    mul-out-point
-    add-out-point
-    out-point-requires
-    add-t13
+    cast-out-masses
+    mul-out-masses
+    add-out-masses
+    out-masses-requires
+    add-t20
     same-length
     returns)

@@ -14,7 +14,7 @@ use Rattle.filling.specs.Lists.{mesh, kernels}
 use Rattle.filling.specs.Inside.{testBox, isInside}
 use Rattle.filling.specs.Frame as def
 use Rattle.filling.specs.Fill.{capacity}
-use Rattle.visit.proofs.Visiting.{Visited-so-far, visit-start, visit-past, visit-room, visit-added, visit-end, visit-full, length-visited, capacity-few}
+use Rattle.visit.proofs.Visiting.{Visited-so-far, visit-start, visit-past, visit-room, visit-added, visit-end, visit-full, capacity-few}
 use Rattle.visit.proofs.visit_cells.Statement.{statement}
 use Rattle.visit.proofs.visit_cells.Tie as tie
 
@@ -85,8 +85,7 @@ same-length c =
 same-length-2 : tie.Need-same-length-2 Inv-loop μ-loop
 same-length-2 c =
     let at-loop = c .before .before .before .before .before .before .before .before .before in
-    let start = at-loop .before .before .before .before .before .before .before in
-    length-visited _ _ _ _ _ _ (at-loop .loop .c) (at-loop .loop .w) _ (start .pre .0 .room) (at-loop .loop .inv .2)
+    at-loop .loop .inv .2 .long
 
 returns : tie.Need-returns Inv-loop μ-loop
 unfolding cube
@@ -132,7 +131,7 @@ loop-again-2 c =
       omega (arith, below),
       at-inside .is-inside .kept .1 .1 .1 .0 ∙ at-loop .loop .inv .1,
       visit-added (mesh (a .triangles .now)) (a .f) (a .g) (kernels (a .cauchy .now)) (kernels (a .elliptic .now)) (a .out .now) (at-loop .loop .c) (at-loop .loop .w) _ (at-loop .loop .out) _
-          below inside (start .pre .0 .room) low (at-add .add-cell .ensures .0) (at-add .add-cell .ensures .1) (at-loop .loop .inv .2),
+          below inside (start .pre .0 .room) low (at-add .add-cell .ensures .0) (at-add .add-cell .ensures .1) (at-add .add-cell .kept .1 .1 .1 .1 .1 .1 .1 .0) (at-loop .loop .inv .2),
     )
 
 same-length-3 : tie.Need-same-length-3 Inv-loop μ-loop
@@ -141,8 +140,7 @@ same-length-3 c = c .before .loop .inv .1
 same-length-4 : tie.Need-same-length-4 Inv-loop μ-loop
 same-length-4 c =
     let at-loop = c .before in
-    let start = at-loop .before .before .before .before .before .before .before in
-    length-visited _ _ _ _ _ _ (at-loop .loop .c) (at-loop .loop .w) _ (start .pre .0 .room) (at-loop .loop .inv .2)
+    at-loop .loop .inv .2 .long
 
 returns-2 : tie.Need-returns-2 Inv-loop μ-loop
 unfolding cube

@@ -1,77 +1,60 @@
 -- `mascon_grid::scaling::header_of` meets its contract. Assumes nothing.
-use Rattle.filling.specs.Fill.{narrowed, corners}
-use Rattle.mascon_grid.specs.Scaled.{headerOf}
+use mathlib.Core.Path.{refl}
+use Rattle.mascon_grid.specs.Scaled.{headerAround}
 use borrow.Author.Needs.{needs}
 use Rattle.mascon_grid.proofs.scaling.header_of.Statement.{statement}
 use Rattle.mascon_grid.proofs.scaling.header_of.Tie as tie
 
-scale-of-requires : tie.Need-scale-of-requires
-scale-of-requires c κs = search needs
+array-read-t7 : tie.Need-array-read-t7
+array-read-t7 c = search needs
 
-narrow-requires : tie.Need-narrow-requires
-narrow-requires c κs = search needs
+array-read-t10 : tie.Need-array-read-t10
+array-read-t10 c = search needs
 
-narrow-requires-2 : tie.Need-narrow-requires-2
-narrow-requires-2 c κs = search needs
+array-read-t13 : tie.Need-array-read-t13
+array-read-t13 c = search needs
 
-narrow-requires-3 : tie.Need-narrow-requires-3
-narrow-requires-3 c κs = search needs
+array-read-t16 : tie.Need-array-read-t16
+array-read-t16 c = search needs
 
-narrow-requires-4 : tie.Need-narrow-requires-4
-narrow-requires-4 c κs = search needs
+array-read-t19 : tie.Need-array-read-t19
+array-read-t19 c = search needs
 
-narrow-requires-5 : tie.Need-narrow-requires-5
-narrow-requires-5 c κs = search needs
+array-read-t22 : tie.Need-array-read-t22
+array-read-t22 c = search needs
 
-narrow-requires-6 : tie.Need-narrow-requires-6
-narrow-requires-6 c κs = search needs
+array-read-t25 : tie.Need-array-read-t25
+array-read-t25 c = search needs
 
-narrow-requires-7 : tie.Need-narrow-requires-7
-narrow-requires-7 c κs = search needs
+array-read-t28 : tie.Need-array-read-t28
+array-read-t28 c = search needs
 
-narrow-requires-8 : tie.Need-narrow-requires-8
-narrow-requires-8 c κs = search needs
+array-read-t31 : tie.Need-array-read-t31
+array-read-t31 c = search needs
 
-narrow-requires-9 : tie.Need-narrow-requires-9
-narrow-requires-9 c κs = search needs
+array-read-t34 : tie.Need-array-read-t34
+array-read-t34 c = search needs
 
-narrow-requires-10 : tie.Need-narrow-requires-10
-narrow-requires-10 c κs = search needs
-
-narrow-requires-11 : tie.Need-narrow-requires-11
-narrow-requires-11 c κs = search needs
+array-read-t37 : tie.Need-array-read-t37
+array-read-t37 c = search needs
 
 returns : tie.Need-returns
-unfolding headerOf narrowed corners
-returns c =
-    rw (← c .narrow11 .ensures, ← c .before .narrow10 .ensures)
-    (rw (
-      ← c .before .before .before .before .before .before .before .before .before .before .before .scale-of .ensures,
-      ← c .before .before .before .before .before .before .before .before .before .before .narrow .ensures,
-      ← c .before .before .before .before .before .before .before .before .before .narrow2 .ensures,
-      ← c .before .before .before .before .before .before .before .before .narrow3 .ensures,
-      ← c .before .before .before .before .before .before .before .narrow4 .ensures,
-      ← c .before .before .before .before .before .before .narrow5 .ensures,
-      ← c .before .before .before .before .before .narrow6 .ensures,
-      ← c .before .before .before .before .narrow7 .ensures,
-      ← c .before .before .before .narrow8 .ensures,
-      ← c .before .before .narrow9 .ensures,
-    ))
+unfolding headerAround
+returns c = refl
 
 pub header-of-spec : {M : Type 1} → statement M
 header-of-spec =
     tie.close
     (tie.spec
-    scale-of-requires
-    narrow-requires
-    narrow-requires-2
-    narrow-requires-3
-    narrow-requires-4
-    narrow-requires-5
-    narrow-requires-6
-    narrow-requires-7
-    narrow-requires-8
-    narrow-requires-9
-    narrow-requires-10
-    narrow-requires-11
+    array-read-t7
+    array-read-t10
+    array-read-t13
+    array-read-t16
+    array-read-t19
+    array-read-t22
+    array-read-t25
+    array-read-t28
+    array-read-t31
+    array-read-t34
+    array-read-t37
     returns)
