@@ -8,7 +8,6 @@ use native.Mathlib.Omega.{arith}
 use lib.ListN.{length, getD, take, drop, set, length-set}
 use lib.Seq.{take-suc, take-set-le, getD-set-same, drop-cons}
 use lib.Ieee.{Float, nan}
-use borrow.Author.Tests.{lt-ltb}
 use Rattle.float.specs.declared.Narrowed.{Narrowed}
 use Rattle.float.specs.declared.Narrowed.the-variants.{Finite, TooLarge}
 use Rattle.float.specs.Narrow.{isLarge, floatWord, floatWords, anyLarge, Told}
@@ -38,7 +37,7 @@ words-done ws xs i hx hw e =
 -- the pattern of a number is finite exactly where the number is not too large
 pub word-finite : (x : Float) (r : Narrowed) → Told x r → finite (floatWord x) ≡ not (isLarge r)
 unfolding finite
-word-finite x r t = rw (lt-ltb (floatWord x) 4294967296 (t .word)) (t .tells)
+word-finite x r t = t .tells
 
 pub word-large : (x : Float) (r : Narrowed) → Told x r → r ≡ TooLarge → finite (floatWord x) ≡ false
 unfolding isLarge

@@ -129,9 +129,12 @@ unfoldable pub boxFlat : Frame → Bool
 boxFlat f = flat (f .min .x) (f .max .x) || (flat (f .min .y) (f .max .y) || flat (f .min .z) (f .max .z))
 
 -- 20: every float to be written is finite
+abbrev pub fine : Point → Bool
+fine p = finite (p .cauchy) && finite (p .elliptic)
+
 unfoldable pub massesFinite : List Point → Bool
 massesFinite [] = true
-massesFinite (p ∷ ps) = (finite (p .cauchy) && finite (p .elliptic)) && massesFinite ps
+massesFinite (p ∷ ps) = fine p && massesFinite ps
 
 unfoldable pub floatsFinite : Task → Bool
 floatsFinite t = allFinite (measures t ++ (corners (frameOf t) ++ rawSums t)) && massesFinite (recordsOf t (cellsOf t))

@@ -8,7 +8,7 @@ use native.Mathlib.Omega.{arith}
 use lib.Dec.{T, eqb, leb, lit≤}
 use lib.Arith.{digits-lt, digits-mod}
 use lib.Pow.{pow-add, pow-pos, pow-lt, pow-mono}
-use borrow.Author.Tests.{le-leb, lt-leb, eq-eqb, ne-eqb, leb-true, leb-false}
+use borrow.Author.Tests.{lt-ltb, le-leb, lt-leb, eq-eqb, ne-eqb, leb-true, leb-false}
 use lib.Ieee.{Float, nan, inf, fin, binary32, binary64, fits, size, round, ofInt, ofBits, toBits, ne}
 use lib.Ieee.Digits.{size-le}
 use lib.Ieee.Exact.{HasValue}
@@ -76,8 +76,7 @@ told x held r e =
       is = e;
       written = λ v q. finite-written x v held (sym e ∙ q);
       value = λ v q. back x held _ refl ∙ sym (finite-is x v (sym e ∙ q) .0);
-      word = float-small x held;
-      tells = ap finite (back x held _ refl) ∙ told-finite x ∙ ap (λ (a : Narrowed). not (isLarge a)) (sym e);
+      tells = rw (lt-ltb (floatWord x) 4294967296 (float-small x held)) (ap finite (back x held _ refl) ∙ told-finite x ∙ ap (λ (a : Narrowed). not (isLarge a)) (sym e));
     }
 
 -- ---- for all lengths: from the threshold on, and an infinity or a NaN, is too large, and nothing else

@@ -1,9 +1,9 @@
 -- Narrowing of a bit pattern, for any lengths: from ew bits of exponent and fw of fraction to en and fn. Definitions only.
-use Prim.Native.Nat.{ℕ, _+_, _-_, _*_, _%_, _^_, _<_, min}
+use Prim.Native.Nat.{ℕ, _+_, _-_, _*_, _%_, _^_, min}
 use mathlib.Core.Path.{_≡_}
-use mathlib.Core.Bool.{Bool, true, false, not, cond, _||_}
+use mathlib.Core.Bool.{Bool, true, false, not, cond, _&&_, _||_}
 use mathlib.Core.List.{List, [], _∷_}
-use lib.Dec.{eqb, leb}
+use lib.Dec.{eqb, leb, ltb}
 use lib.Ieee.{Float, nan, inf, fin, binary32, binary64, up, down, round, ofBits, toBits}
 use lib.Ieee.Scale.{finite}
 use lib.Ieee.Nearest.{closest}
@@ -60,7 +60,7 @@ narrowNumber TooLarge = 4294967296
 
 -- ---- as they are written
 
--- the binary32 pattern of a number that is not too large
+-- the binary32 pattern of a number. What is too large has an infinity's or the quiet NaN's, and is refused before it is written: 20, 22.
 unfoldable pub floatWord : Float → ℕ
 floatWord x = narrow64 (toBits binary64 x)
 
@@ -73,10 +73,10 @@ unfoldable pub anyLarge : List Float → Bool
 anyLarge [] = false
 anyLarge (x ∷ xs) = isLarge (narrowing x) || anyLarge xs
 
--- what the code's answer r says of x: it is narrowing's; a finite one is the float of the word that is written, and that word is finite exactly then
+-- what the code's answer r says of x: it is narrowing's; a finite one is the float of the word that is written, and that word is the pattern of a finite
+-- float exactly then
 pub record Told (x : Float) (r : Narrowed) : Type 0 where
   pub is : r ≡ narrowing x
   pub written : (v : Float) → r ≡ Finite v → toBits binary32 v ≡ floatWord x
   pub value : (v : Float) → r ≡ Finite v → ofBits binary32 (floatWord x) ≡ v
-  pub word : floatWord x < 4294967296
-  pub tells : finite (ofBits binary32 (floatWord x)) ≡ not (isLarge r)
+  pub tells : (ltb (floatWord x) 4294967296 && finite (ofBits binary32 (floatWord x))) ≡ not (isLarge r)

@@ -1,7 +1,7 @@
 -- The records that a visit leaves, not yet scaled: they fit their bytes, they are read again, and scaled they are the file's. Assumes nothing.
 use Prim.Native.Nat.{ℕ, zero, suc, _+_, _*_, _≤_, _<_}
 use mathlib.Core.Path.{_≡_, refl, sym, ap, _∙_}
-use mathlib.Core.Bool.{Bool, true, false, cond, true≢false, _&&_}
+use mathlib.Core.Bool.{Bool, true, false, cond, true≢false, _&&_, and-false}
 use mathlib.Core.List.{List, [], _∷_}
 use native.Mathlib.Omega.{arith}
 use lib.ListN.{length, take, drop}
@@ -157,10 +157,6 @@ scale-small target sum = go (lt zero64 target && lt tiny (abs sum))
 pub scale-none : (target : Float) → scaleOf target zero64 ≡ one64
 unfolding scaleOf abs lt ofBits
 scale-none target = rw (and-false (lt zero64 target))
-  where
-    and-false : (a : Bool) → (a && false) ≡ false
-    and-false true = refl
-    and-false false = refl
 
 pub one-finite : finite (floatWord one64) ≡ true
 unfolding finite floatWord narrow toBits ofBits

@@ -11,8 +11,7 @@ use Rattle.rym1.specs.Bytes.{splice}
 use Rattle.rym1.specs.File.{pointAt, pointsAt, pointBytes, pointsBytes}
 use Rattle.rym1.proofs.Bytes.{word-splice-behind, splice-none, splice-splice}
 use Rattle.rym1.proofs.Points.{same-point, length-point, length-points, length-points-at}
-use Rattle.filling.specs.Fill.{massesFinite}
-use Rattle.visit.specs.Visited.{fine}
+use Rattle.filling.specs.Fill.{fine, massesFinite}
 use Rattle.mascon_grid.specs.Scaled.{scaledPoint, scaledPoints}
 
 -- ---- records
@@ -67,7 +66,7 @@ module _ (out₀ out : List ℕ) (k l n i : ℕ) (p : Point) (h : i < n) (ep : p
       ∙ (λ j. sym ep j ∷ scaledPoints k l (pointsAt out (next j) (n - (i + 1))))
 
   decides : (fine p && massesFinite rest) ≡ massesFinite (scaledPoints k l (pointsAt out₀ 64 n))
-  unfolding massesFinite fine
+  unfolding massesFinite
   decides = rw more at (d .answer)
 
   pub scaling-stop : fine p ≡ false → false ≡ massesFinite (scaledPoints k l (pointsAt out₀ 64 n))

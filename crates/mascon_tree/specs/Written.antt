@@ -1,4 +1,4 @@
--- What the recursion leaves in the output, and what build still has to say once 1 to 8 are passed. Definitions only.
+-- What the recursion answers and leaves in the output, and what build still has to say once 1 to 8 and 21 are passed. Definitions only.
 use Prim.Native.Nat.{ℕ, _+_, _*_, _≤_, _<_}
 use mathlib.Core.Path.{_≡_}
 use mathlib.Core.Bool.{Bool, true, false, not, cond, _&&_}

@@ -1,7 +1,7 @@
 -- All records' floats and numbers, by kind of node: how many there are, which are too large, and the bytes of both together. Assumes nothing.
 use Prim.Native.Nat.{ℕ, _+_}
 use mathlib.Core.Path.{_≡_, refl, sym, ap, _∙_}
-use mathlib.Core.Bool.{Bool, true, false, _||_}
+use mathlib.Core.Bool.{Bool, _||_, or-false, or-assoc}
 use mathlib.Core.List.{List, [], _∷_, _++_, append-nil, append-assoc}
 use native.Mathlib.Omega.{arith}
 use lib.ListN.{length, length-append}
@@ -17,18 +17,10 @@ use Rattle.rtm1.specs.Node.{nodeFloats, nodeBytes, emptyNumbers, leafNum
 
 -- ---- which are too large
 
-or-false : (a : Bool) → (a || false) ≡ a
-or-false true = refl
-or-false false = refl
-
 some-append : (xs ys : List (List Float)) → someLarge (xs ++ ys) ≡ (someLarge xs || someLarge ys)
 unfolding someLarge
 some-append [] ys = refl
-some-append (x ∷ xs) ys = rw (some-append xs ys) (or-assoc (anyLarge x) (someLarge xs) (someLarge ys))
-  where
-    or-assoc : (a b c : Bool) → (a || (b || c)) ≡ ((a || b) || c)
-    or-assoc true b c = refl
-    or-assoc false b c = refl
+some-append (x ∷ xs) ys = rw (some-append xs ys) (sym (or-assoc (anyLarge x) (someLarge xs) (someLarge ys)))
 
 module _ (r : Frame) (b : Cells) where
   pub large-empty : someLarge (nodesFloats r (empty b)) ≡ anyLarge (nodeFloats r b nothing)

@@ -14,7 +14,7 @@ use lib.Ieee.Fits.{add-fits, mul-fits, cond-fits}
 use Rattle.float.specs.Narrow.{narrowing, isLarge, floatWord, floatWords, anyLarge}
 use Rattle.float.specs.Number.{scalarMax}
 use Rattle.float.proofs.Large.{float-small, told}
-use borrow.Author.Tests.{lt-ltb, ltb-true, ltb-false}
+use borrow.Author.Tests.{ltb-true, ltb-false}
 use Rattle.rym1.specs.File.{finite, allFinite}
 use Rattle.rym1.specs.Cells.{Slot}
 use Rattle.rym1.proofs.Causes.{or-false-l, or-false-r}
@@ -127,22 +127,16 @@ measures f r (split b s l h) n o F p =
 
 -- ---- finite
 
-word-fine : (x : Float) → T (fits binary64 x) → finite (floatWord x) ≡ not (isLarge (narrowing x))
-unfolding finite
-word-fine x F =
-    let t = told x F (narrowing x) refl in
-    rw (lt-ltb (floatWord x) 4294967296 (t .word)) (t .tells)
-
 -- each is a binary64
 Held : List Float → Type 0
 Held [] = Unit {0}
 Held (x ∷ xs) = T (fits binary64 x) × Held xs
 
 words-fine : (xs : List Float) → Held xs → anyLarge xs ≡ false → allFinite (floatWords xs) ≡ true
-unfolding Held anyLarge allFinite floatWords
+unfolding Held anyLarge allFinite floatWords finite
 words-fine [] F e = refl
 words-fine (x ∷ xs) F e =
-    let one : finite (floatWord x) ≡ true = word-fine x (F .0) ∙ ap not (or-false-l (isLarge (narrowing x)) (anyLarge xs) e) in
+    let one : finite (floatWord x) ≡ true = told x (F .0) (narrowing x) refl .tells ∙ ap not (or-false-l (isLarge (narrowing x)) (anyLarge xs) e) in
     rw one (words-fine xs (F .1) (or-false-r (isLarge (narrowing x)) (anyLarge xs) e))
 
 floats-held : (r : Frame) (b : Cells) (s : Sums) → SumsFit s → Held (nodeFloats r b s)

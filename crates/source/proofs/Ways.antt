@@ -12,7 +12,7 @@ use Rattle.rym1.specs.declared.Cause.the-variants.{Nothing, CellTwice}
 use Rattle.rym1.specs.Causes.{number, when, first}
 use Rattle.rym1.specs.File.{grid, count, cube, fileCause, repeatCause}
 use Rattle.rym1.specs.Open.{occupied}
-use Rattle.rym1.proofs.Causes.{first-found, first-assoc, first-zero-l, first-zero-r}
+use Rattle.rym1.proofs.Causes.{first-found, first-assoc, first-zero-l}
 use Rattle.rym1.proofs.Repeated.{fewer-twice, as-many-once}
 use Rattle.points.proofs.Refused.{refused}
 use Rattle.lookup.specs.Lookup.{Looked}
@@ -66,7 +66,3 @@ module _ (f s : List ℕ) (cause : Cause) (s′ : List ℕ) (read : Sourced f s 
   pub file-passed : fileCause f ≡ 0
   unfolding sourceCause
   file-passed = first-zero-l (fileCause f) _ (sym (read .cause) ∙ none)
-
-  pub once-passed : repeatCause f ≡ 0
-  unfolding sourceCause
-  once-passed = first-zero-r (when (ltb (length s) (cube (grid f))) 8) _ (first-zero-r (fileCause f) _ (sym (read .cause) ∙ none))

@@ -46,15 +46,3 @@ sums-turn f n at t t′ all h step so-far =
 pub sums-end : (f : ℕ → List Placed) (n at : ℕ) (t all : Sums) → n ≤ at → Rest f n at t ≡ all → t ≡ all
 unfolding total
 sums-end f n at t all h so-far = sym (ap (total t) (run-none f n at h)) ∙ so-far
-
--- ---- counts
-
--- k, and how many points f has from `at` up to n
-abbrev pub Still : (ℕ → List Placed) → ℕ → ℕ → ℕ → ℕ
-Still f n at k = k + length (run f at (n - at))
-
-pub count-turn : (f : ℕ → List Placed) (n at k k′ all : ℕ) → at < n → k′ ≡ k + length (f at) → Still f n at k ≡ all → Still f n (at + 1) k′ ≡ all
-count-turn f n at k k′ all h step so-far = omega (arith, length-first f n at h)
-
-pub count-end : (f : ℕ → List Placed) (n at k all : ℕ) → n ≤ at → Still f n at k ≡ all → k ≡ all
-count-end f n at k all h so-far = omega (arith, length-none f n at h)

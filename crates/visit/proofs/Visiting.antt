@@ -1,7 +1,7 @@
 -- Laws of the visit of the cells: what the cells passed leave, and what one more adds. Assumes nothing.
 use Prim.Native.Nat.{ℕ, suc, _+_, _-_, _*_, _≤_, _<_}
 use mathlib.Core.Path.{_≡_, refl, sym, ap, _∙_, subst}
-use mathlib.Core.Bool.{Bool, true, false, not, cond, _&&_, _||_}
+use mathlib.Core.Bool.{Bool, true, false, not, cond, _&&_, _||_, and-true, and-assoc, or-true, or-false}
 use mathlib.Core.List.{List, [], _∷_, _++_, append-nil, append-assoc}
 use native.Mathlib.Nat.{sub-zero}
 use native.Mathlib.Numerals.{add-one}
@@ -12,7 +12,7 @@ use borrow.Author.Tests.{lt-ltb, le-ltb}
 use Rattle.float.specs.Number.{zero64}
 use Rattle.rym1.specs.Bytes.{splice}
 use Rattle.rym1.specs.declared.Point.{Point}
-use Rattle.rym1.specs.File.{finite, size, cube, pointBytes, pointsBytes}
+use Rattle.rym1.specs.File.{size, cube, pointBytes, pointsBytes}
 use Rattle.rym1.proofs.Causes.{and-true-l, and-true-r}
 use Rattle.rym1.proofs.Bytes.{splice-none, behind}
 use Rattle.rym1.proofs.Points.{length-point, length-points, points-append}
@@ -23,10 +23,10 @@ use Rattle.filling.specs.declared.Frame.{Frame}
 use Rattle.filling.specs.Vector.{plus}
 use Rattle.filling.specs.Inside.{testBox, isInside}
 use Rattle.filling.specs.Frame.{middle}
-use Rattle.filling.specs.Fill.{capacity, innerFrom, inner, massOf, rawFrom, massesFinite}
+use Rattle.filling.specs.Fill.{capacity, innerFrom, inner, massOf, rawFrom, fine, massesFinite}
 use Rattle.visit.specs.declared.Found.{Found}
 use Rattle.visit.specs.declared.Visit.the-variants.{Done, Full}
-use Rattle.visit.specs.Visited.{rawPoint, rawPoints, fine, found, withCell, visited, Visiting}
+use Rattle.visit.specs.Visited.{rawPoint, rawPoints, found, withCell, visited, Visiting}
 
 -- ---- one cell more, behind the others
 
@@ -48,17 +48,9 @@ length-raw-points f g ks es (c ∷ cs) = ap suc (length-raw-points f g ks es cs)
 
 -- masses are finite up to the last, and there
 finite-more : (ps : List Point) (p : Point) → massesFinite (ps ++ (p ∷ [])) ≡ (massesFinite ps && fine p)
-unfolding massesFinite fine
-finite-more [] p = and-true (finite (p .cauchy) && finite (p .elliptic))
-  where
-    and-true : (a : Bool) → (a && true) ≡ a
-    and-true true = refl
-    and-true false = refl
-finite-more (q ∷ ps) p = rw (finite-more ps p) (and-assoc (finite (q .cauchy) && finite (q .elliptic)) (massesFinite ps) (fine p))
-  where
-    and-assoc : (a b c : Bool) → (a && (b && c)) ≡ ((a && b) && c)
-    and-assoc true b c = refl
-    and-assoc false b c = refl
+unfolding massesFinite
+finite-more [] p = and-true (fine p)
+finite-more (q ∷ ps) p = rw (finite-more ps p) (sym (and-assoc (fine q) (massesFinite ps) (fine p)))
 
 not-and : (a b : Bool) → (not a || not b) ≡ not (a && b)
 not-and true b = refl
@@ -74,18 +66,10 @@ found-more f g ks es cs c =
 
 -- the flag after a record: set where the record was not written
 pub large-taken : (l r : Bool) → not r ≡ true → true ≡ (l || not r)
-large-taken l r h = rw h (or-true l)
-  where
-    or-true : (l : Bool) → true ≡ (l || true)
-    or-true true = refl
-    or-true false = refl
+large-taken l r h = rw h (sym (or-true l))
 
 pub large-left : (l r : Bool) → not r ≡ false → l ≡ (l || not r)
-large-left l r h = rw h (or-false l)
-  where
-    or-false : (l : Bool) → l ≡ (l || false)
-    or-false true = refl
-    or-false false = refl
+large-left l r h = rw h (sym (or-false l))
 
 -- ---- the cells from c on
 

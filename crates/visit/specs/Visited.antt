@@ -1,7 +1,7 @@
 -- What the visit of the cells finds and leaves behind: the records before their scaling. Definitions only.
 use Prim.Native.Nat.{ℕ, _+_, _/_, _≤_, _<_}
 use mathlib.Core.Path.{_≡_}
-use mathlib.Core.Bool.{Bool, true, not, cond, _&&_, _||_}
+use mathlib.Core.Bool.{true, not, cond, _||_}
 use mathlib.Core.List.{List, [], _∷_}
 use lib.ListN.{length}
 use lib.Dec.{ltb}
@@ -10,13 +10,13 @@ use Rattle.float.specs.Narrow.{floatWord}
 use Rattle.float.specs.Number.{zero64}
 use Rattle.rym1.specs.declared.Point.{Point}
 use Rattle.rym1.specs.Bytes.{splice}
-use Rattle.rym1.specs.File.{finite, size, pointsBytes}
+use Rattle.rym1.specs.File.{size, pointsBytes}
 use Rattle.rym1.specs.Cells.{cellPoint}
 use Rattle.filling.specs.declared.Kernel.{Kernel}
 use Rattle.filling.specs.declared.Frame.{Frame}
 use Rattle.filling.specs.Lists.{mesh, goodTriangles}
 use Rattle.filling.specs.Vector.{plus}
-use Rattle.filling.specs.Fill.{capacity, massOf, rawFrom, massesFinite}
+use Rattle.filling.specs.Fill.{capacity, massOf, rawFrom, fine, massesFinite}
 use Rattle.visit.specs.declared.Found.{Found}
 use Rattle.visit.specs.declared.Visit.{Visit}
 use Rattle.visit.specs.declared.Visit.the-variants.{Done, Full}
@@ -28,10 +28,6 @@ rawPoint f g ks es c = cellPoint g c (record { cauchy = floatWord (massOf f g ks
 unfoldable pub rawPoints : Frame → ℕ → List Kernel → List Kernel → List ℕ → List Point
 rawPoints f g ks es [] = []
 rawPoints f g ks es (c ∷ cs) = rawPoint f g ks es c ∷ rawPoints f g ks es cs
-
--- both masses of a record are finite
-unfoldable pub fine : Point → Bool
-fine p = finite (p .cauchy) && finite (p .elliptic)
 
 -- how many cells, the raw sums, and whether a mass is too large
 unfoldable pub found : Frame → ℕ → List Kernel → List Kernel → List ℕ → Found

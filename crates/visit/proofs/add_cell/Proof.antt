@@ -6,7 +6,7 @@ use borrow.Author.Needs.{needs}
 use Rattle.rym1.specs.Cells.{cellPoint}
 use Rattle.filling.specs.Lists.{kernels}
 use Rattle.filling.specs.Fill.{massOf}
-use Rattle.visit.specs.Visited.{rawPoint, fine, withCell}
+use Rattle.visit.specs.Visited.{rawPoint, withCell}
 use Rattle.visit.proofs.Visiting.{large-taken, large-left}
 use Rattle.visit.proofs.add_cell.Statement.{statement}
 use Rattle.visit.proofs.add_cell.Tie as tie
@@ -36,7 +36,7 @@ same-length : tie.Need-same-length
 same-length c = search needs
 
 returns : tie.Need-returns
-unfolding massOf rawPoint fine withCell cellPoint
+unfolding massOf rawPoint withCell cellPoint
 returns c =
     let start = c .before .before .before .before .before .before .before .before .before .before .before .before in
     let a = start .args in
