@@ -12,8 +12,8 @@ use Rattle.rtm1.specs.declared.Frame.{Frame}
 use Rattle.rtm1.specs.declared.Sums.{Sums}
 use Rattle.rtm1.specs.declared.Numbers.{Numbers}
 use Rattle.rtm1.specs.Visit.{nothing}
-use Rattle.rtm1.specs.Tree.{Tree, empty, leaf, split, nodeCount, order, occupied}
-use Rattle.rtm1.specs.Node.{nodeFloats, nodeBytes, emptyNumbers, leafNumbers, splitNumbers, nodesFloats, someLarge, nodesNumbers, recordsBytes, nodesBytes}
+use Rattle.rtm1.specs.Tree.{Tree, empty, leaf, split, nodeCount, order}
+use Rattle.rtm1.specs.Node.{nodeFloats, nodeBytes, rootNumbers, nodesFloats, someLarge, nodesNumbers, recordsBytes, nodesBytes}
 
 -- ---- which are too large
 
@@ -66,22 +66,22 @@ records-append (w ∷ ws) ws′ (q ∷ qs) qs′ e =
     ap (λ (l : List ℕ). one ++ l) (records-append ws ws′ qs qs′ (omega (arith, e))) ∙ sym (append-assoc one (recordsBytes ws qs) (recordsBytes ws′ qs′))
 
 module _ (r : Frame) (b : Cells) (n o : ℕ) where
-  pub nodes-empty : nodesBytes r (empty b) n o ≡ nodeBytes (nodeFloats r b nothing) emptyNumbers
+  pub nodes-empty : nodesBytes r (empty b) n o ≡ nodeBytes (nodeFloats r b nothing) (rootNumbers (empty b) n o)
   unfolding nodesBytes nodesFloats nodesNumbers recordsBytes
-  nodes-empty = append-nil (nodeBytes (nodeFloats r b nothing) emptyNumbers)
+  nodes-empty = append-nil (nodeBytes (nodeFloats r b nothing) (rootNumbers (empty b) n o))
 
   module _ (s : Sums) where
-    pub nodes-leaf : (is : List ℕ) → nodesBytes r (leaf b s is) n o ≡ nodeBytes (nodeFloats r b s) (leafNumbers o (length is) (s .count))
+    pub nodes-leaf : (is : List ℕ) → nodesBytes r (leaf b s is) n o ≡ nodeBytes (nodeFloats r b s) (rootNumbers (leaf b s is) n o)
     unfolding nodesBytes nodesFloats nodesNumbers recordsBytes
-    nodes-leaf is = append-nil (nodeBytes (nodeFloats r b s) (leafNumbers o (length is) (s .count)))
+    nodes-leaf is = append-nil (nodeBytes (nodeFloats r b s) (rootNumbers (leaf b s is) n o))
 
     pub nodes-split : (lo hi : Tree)
         → nodesBytes r (split b s lo hi) n o
-        ≡ nodeBytes (nodeFloats r b s) (splitNumbers (occupied lo) (n + 1) (occupied hi) (n + 1 + nodeCount lo) (s .count))
+        ≡ nodeBytes (nodeFloats r b s) (rootNumbers (split b s lo hi) n o)
         ++ (nodesBytes r lo (n + 1) o ++ nodesBytes r hi (n + 1 + nodeCount lo) (o + length (order lo)))
     unfolding nodesBytes nodesFloats nodesNumbers recordsBytes
     nodes-split lo hi =
         let a = nodesNumbers lo (n + 1) o in
         let z = nodesNumbers hi (n + 1 + nodeCount lo) (o + length (order lo)) in
-        let root = nodeBytes (nodeFloats r b s) (splitNumbers (occupied lo) (n + 1) (occupied hi) (n + 1 + nodeCount lo) (s .count)) in
+        let root = nodeBytes (nodeFloats r b s) (rootNumbers (split b s lo hi) n o) in
         ap (λ (l : List ℕ). root ++ l) (records-append (nodesFloats r lo) (nodesFloats r hi) a z (floats-long r lo ∙ sym (numbers-long lo (n + 1) o)))

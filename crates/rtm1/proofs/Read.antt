@@ -16,7 +16,7 @@ use Rattle.rtm1.specs.declared.Sums.{Sums}
 use Rattle.rtm1.specs.declared.Numbers.{Numbers}
 use Rattle.rtm1.specs.Visit.{nothing}
 use Rattle.rtm1.specs.Tree.{Tree, empty, leaf, split, nodeCount, order}
-use Rattle.rtm1.specs.Node.{frameOf, nodeFloats, nodeWords, nodeBytes, numberWord, emptyNumbers, leafNumbers, splitNumbers, nodesBytes}
+use Rattle.rtm1.specs.Node.{frameOf, nodeFloats, nodeWords, nodeBytes, numberWord, emptyNumbers, leafNumbers, splitNumbers, rootNumbers, nodesBytes}
 use Rattle.rtm1.specs.Build.{headerWords, treeBytes}
 use Rattle.rtm1.specs.Read.{nodesIn, field, numbersAt, numberOf, linkOf, leftLink, rightLink, leafStart, leafCount, countAt, orderAt, orderWords, leafWords, wordsAt, Says, linkTo, Reads, Measures}
 use Rattle.rtm1.proofs.Node.{length-node-words}
@@ -112,7 +112,7 @@ module _ (f : List ℕ) (n : ℕ) (r : Frame) (b : Cells) (s : Sums) where
 module _ (f : List ℕ) (r : Frame) where
   pub reads : (t : Tree) (n o : ℕ) → Counted t → n + nodeCount t ≤ 16777216 → o + length (order t) ≤ 16777216 → AllWords (order t)
       → Part f (64 + 80 * n) (nodesBytes r t n o) → Part f (orderAt f + 4 * o) (wordsBytes (order t)) → Reads f t n o
-  unfolding Reads Counted nodeCount order leafWords
+  unfolding Reads Counted nodeCount order leafWords rootNumbers
   reads (empty b) n o c hn ho small p w = empty-says f n r b nothing (subst (λ (v : List ℕ). Part f (64 + 80 * n) v) (nodes-empty r b n o) p)
   reads (leaf b s is) n o c hn ho small p w =
       let k = length is in
