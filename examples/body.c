@@ -1,4 +1,4 @@
-/* A body from mesh to tree through the C boundary: filled, opened, edited, undone and built.
+/* A body from mesh to tree through the C boundary: output reserved, filled, opened, edited, undone and built.
      rt staticlib mascon
      cc -std=c99 -Iinclude examples/body.c -o body target/staticlib/libmascon.a
    It prints what was made and exits with 0, or says which call was refused and why, and exits with 1. */
@@ -11,6 +11,7 @@
 /* What the example may meet; a program that reads files has more causes to tell. */
 static const char *words(uint64_t cause) {
     switch (cause) {
+    case MASCON_GRID_OUT_OF_RANGE: return "the grid is 0 or above 256";
     case MASCON_EMPTY_CELL: return "the cell is empty";
     case MASCON_NOTHING_TO_UNDO: return "nothing to undo";
     case MASCON_OUT_OF_BOUNDS: return "a list or a number outside its bounds";
@@ -21,11 +22,16 @@ static const char *words(uint64_t cause) {
     }
 }
 
-/* A length, or the end of the program with the cause of the refusal. */
+/* The end of the program with the cause of a refusal. */
+static void stop(const char *call, uint64_t cause) {
+    fprintf(stderr, "%s: refused %llu: %s\n", call, (unsigned long long)cause, words(cause));
+    exit(1);
+}
+
+/* A length, else the end. */
 static size_t length(const char *call, uint64_t answer) {
     if (answer < 64) {
-        fprintf(stderr, "%s: refused %llu: %s\n", call, (unsigned long long)answer, words(answer));
-        exit(1);
+        stop(call, answer);
     }
     return (size_t)answer;
 }
@@ -62,6 +68,15 @@ int main(void) {
     const double kernel[5] = {50.0, 0.0, 0.0, 0.004, 1900.0}; /* centre, sigma, w */
     octahedron(mesh);
 
+    /* Reserved, before there is a file: no tree of this grid is longer. */
+    MasconCost cost = mascon_costliest(GRID);
+    if (cost.answer != 0) {
+        stop("costliest", cost.answer);
+    }
+    size_t tree_length = (size_t)cost.bytes;
+    uint8_t *tree = room(tree_length);
+    printf("reserved: %llu nodes, %zu bytes\n", (unsigned long long)cost.nodes, tree_length);
+
     /* Filled: at most half the cells, rounded up, hold a point. */
     size_t most = 64 + 16 * ((CELLS + 1) / 2);
     double floats[8];
@@ -92,9 +107,7 @@ int main(void) {
         return 1;
     }
 
-    /* Built: 64 bytes of header, 80 a node, 4 an occupied cell; this much is always enough. */
-    size_t tree_length = 64 + 84 * (size_t)CELLS;
-    uint8_t *tree = room(tree_length);
+    /* Built: 64 bytes of header, 80 a node, 4 an occupied cell. */
     MasconBuilt built = mascon_build(file, now, scratch, CELLS, tree, tree_length);
     size_t bytes = length("build", built.answer);
     printf("tree: %llu nodes, %llu ordered points, %zu bytes\n", (unsigned long long)built.nodes, (unsigned long long)built.order, bytes);

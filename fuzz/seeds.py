@@ -1,6 +1,6 @@
 #!/usr/bin/env python3
 """Turns the stored answers (crates/vectors/data/*.bin) into inputs of the targets, in the layout of src/decode.h: seeds.py DATA OUT.
-OUT/edges has inputs written here: what is just too large for a float, and what just is not."""
+OUT/edges has inputs written here: what is just too large for a float, and what just is not; the grids of the costliest files."""
 import hashlib
 import pathlib
 import struct
@@ -26,6 +26,11 @@ def raw(part):
 
 def number(part):
     return b"\xa0" + part
+
+
+def whole(g):
+    """A grid of the costliest files given outright."""
+    return b"\x04" + struct.pack("<I", g)
 
 
 def save(target, seed, root=out):
@@ -56,6 +61,14 @@ for place, block in enumerate(blocks("open", 4096)):
 for place, block in enumerate(blocks("build", 8192)):
     file, scratch, room = words(block, 3)
     save("build", bytes([place & 1]) + exact(scratch) + exact(room) + bytes(2) + raw(block[64 : 64 + file]))
+
+grids = [whole(*words(block, 1)) for block in blocks("cost", 16)]
+for grid in grids:
+    save("costliest", grid)
+
+for place, block in enumerate(blocks("costliest", 8192)):
+    g, room = words(block, 2)
+    save("write_costliest", bytes([2 | place & 1]) + whole(g) + exact(room))
 
 for place, block in enumerate(blocks("edit", 8192)):
     room, journal, count = words(block, 3)
@@ -153,5 +166,24 @@ CUBE = b"\x01\x00" + 3 * b"\xa4\x03\xa4\x02"  # -1e6 to 1e6
 HEAVY = b"\x01" + 4 * b"\x50" + b"\xa4\x06"  # one kernel of sigma 0 and weight 1e30
 for g in (1, 4):
     edge("fill", b"\x02" + struct.pack("<I", g) + CUBE + HEAVY + HEAVY + b"\x50\x54\x00\x00")
+
+for first in range(0, len(grids), 8):
+    edge("costliest", b"".join(grids[first : first + 8]))
+
+
+def write_edge(first, g, room=0):
+    """With so much lent: 0: what the file needs; 1: a byte less; 2: a byte more; 3: nothing; 15: 16 bytes more."""
+    edge("write_costliest", bytes([first]) + whole(g) + bytes([room]))
+
+
+AT_END, BUILT_TOO, LARGER = 1, 2, 0xF0
+for g in range(1, 17):
+    write_edge(BUILT_TOO | g & AT_END, g)
+for g in (0, 1, 8, 17, 256, 257):
+    for room in (1, 2, 3):
+        write_edge(room & AT_END, g, room)
+write_edge(AT_END, 65537, 15)
+write_edge(LARGER | BUILT_TOO, 25)
+write_edge(LARGER | AT_END, 41)
 
 print(", ".join(f"{target} {count}" for target, count in counts.items()))

@@ -16,9 +16,9 @@
 
 /* The version of these declarations, the Rust crate's. While the first number is 0, the second changes where a call is new, is declared otherwise
    or answers otherwise. */
-#define MASCON_VERSION "0.3.0"
+#define MASCON_VERSION "0.4.0"
 #define MASCON_VERSION_MAJOR 0
-#define MASCON_VERSION_MINOR 3
+#define MASCON_VERSION_MINOR 4
 #define MASCON_VERSION_PATCH 0
 
 #ifdef __cplusplus
@@ -139,13 +139,33 @@ typedef struct {
    Answers the length written, 64 + 80 * nodes + 4 * order, or a number below 64, the cause of a refusal:
    1 under 64 bytes, 2 word 0 or version, 3 grid, 4 records missing, 5 a header float, 6 a coordinate, 7 a mass,
    8 scratch under grid^3 words, 21 two records name one cell, 22 a float of the tree is too large, 9 out too short, in this order.
-   64 + 84 * grid^3 bytes are always enough.
+   The bytes that mascon_costliest answers for the grid are always enough.
    22 is about the fifteen floats of every node, box centre, half, both sums of masses and the three centres of mass: one of them is too
    large as in mascon_narrow, be out long enough or not. So every float that is written is finite.
    A refusal changes no byte of out, and none of scratch where it is 1 to 8. out past the length is as it was; file is only read;
    scratch is free otherwise. The three do not overlap. */
 MasconBuilt mascon_build(const uint8_t *file, size_t file_length, uint32_t *scratch, size_t scratch_length,
                          uint8_t *out, size_t out_length);
+
+/* What costliest answers: 0 or a refusal's cause, then a node count and the length of the tree that has it, 0 at a refusal. */
+typedef struct {
+    uint64_t answer, nodes, bytes;
+} MasconCost;
+
+/* The most costly model of a grid, so that output can be reserved before there is a file: the greatest node count of a tree with g cells
+   to an axis, and that tree's length, 64 + 80 * nodes + 4 * g^3.
+   Answers 0 with both numbers, or 3, its only refusal, where g is not 1 to 256.
+   Every file of this grid that 1 to 7 accept has at most so many nodes and bytes in its tree, so that mascon_build, lent so many bytes of
+   output, never answers 9. The file that mascon_write_costliest writes has exactly so many. */
+MasconCost mascon_costliest(uint32_t g);
+
+/* Writes the point file of that model into out: every cell in working form, all masses 1, the box from 0 to 1 on each axis, bytes 16 to
+   31 (density, cell volume, scale) and 56 to 63 (raw sums) zero.
+   Answers the length written, 64 + 16 * g^3, or a number below 64, the cause of a refusal, in this order: 3 g not 1 to 256; 9 out under
+   that length.
+   mascon_open and mascon_build, lent enough, accept the file: neither 21 nor 22 is against it.
+   A refusal changes no byte of out. out past the length is as it was. */
+uint64_t mascon_write_costliest(uint32_t g, uint8_t *out, size_t out_length);
 
 #ifdef __cplusplus
 }

@@ -10,6 +10,7 @@
 #define MOST_JOURNAL 512u // words
 #define MOST_LIST 8192u
 #define MOST_TREE (64 + 80 * 2 * MOST_SCRATCH + 4 * MOST_SCRATCH)
+#define MOST_FULL (64 + 16 * 4096u) // every cell of g 16
 
 uint64_t calls_made[CALLS], calls_accepted[CALLS], calls_large[CALLS];
 
@@ -69,6 +70,16 @@ static void check_only_read(const Lent *lent) {
     check_kept(lent, 0, "only read");
 }
 
+/* Out as a refusal leaves it, or with what is wanted written. */
+static void check_out(uint64_t answer) {
+    if (answer < 64) {
+        check_kept(&out, 0, "refused");
+    } else {
+        check_bytes(&out, want, 0, answer, "written");
+        check_kept(&out, answer, "past the length");
+    }
+}
+
 /* What open, fold and build have in common after a call: the answer, and the file, scratch and output. */
 static void check_call(uint64_t answer, uint64_t right, uint32_t causes, size_t entry) {
     check_only_read(&file);
@@ -76,13 +87,8 @@ static void check_call(uint64_t answer, uint64_t right, uint32_t causes, size_t 
     check_canaries(&out);
     check_possible(answer, CAUSES_1_TO_7 | CAUSE(8) | CAUSE(9) | causes, out.length, entry);
     check_answer(answer, right);
-    if (answer < 64) {
-        check_kept(&out, 0, "refused");
-        if (answer <= 8) check_kept(&scratch, 0, "refused by 1 to 8");
-    } else {
-        check_bytes(&out, want, 0, answer, "written");
-        check_kept(&out, answer, "past the length");
-    }
+    check_out(answer);
+    if (answer <= 8) check_kept(&scratch, 0, "refused by 1 to 8");
 }
 
 /* Opens what stands in `file`, with `scratch`, `out` and `journal` as lent, and checks all of it. */
@@ -118,6 +124,21 @@ static uint64_t fold_checked(void) {
     return answer;
 }
 
+/* What the costliest file of a grid has. */
+static MasconCost costliest_checked(uint32_t g) {
+    const char *before = under_test;
+    under_test = "costliest";
+    uint64_t nodes, length, right = rule_costliest(g, &nodes, &length);
+    MasconCost most = mascon_costliest(g);
+    count(CALL_costliest, most.answer == 0);
+    check_answer(most.answer, right);
+    if (most.nodes != nodes || most.bytes != length)
+        fail("%llu nodes and %llu bytes for grid %u, not %llu and %llu", (unsigned long long)most.nodes, (unsigned long long)most.bytes, g,
+             (unsigned long long)nodes, (unsigned long long)length);
+    under_test = before;
+    return most;
+}
+
 /* Every float of a written tree is finite, those of its header too. */
 static void check_finite(uint64_t nodes) {
     for (uint64_t at = 16; at < 64 + 80 * nodes; at += 4)
@@ -139,8 +160,9 @@ static uint64_t build_checked(void) {
         fail("%llu nodes and %llu order words, not %llu and %llu", (unsigned long long)built.nodes, (unsigned long long)built.order,
              (unsigned long long)nodes, (unsigned long long)ordered);
     if (built.answer >= 64) {
-        if (built.answer != 64 + 80 * built.nodes + 4 * built.order) fail("the length is not that of the counts");
-        if (built.nodes >= 2 * cube(get32(file.at + 8))) fail("too many nodes");
+        if (built.answer != tree_length(built.nodes, built.order)) fail("the length is not that of the counts");
+        MasconCost most = costliest_checked(get32(file.at + 8));
+        if (built.nodes > most.nodes || built.answer > most.bytes) fail("more nodes or bytes than the costliest file has");
         check_finite(built.nodes);
     }
     under_test = before;
@@ -151,15 +173,16 @@ static uint64_t build_checked(void) {
 static uint64_t tree_needs(const uint8_t *bytes, size_t length) {
     Tree tree;
     if (rule_judge(bytes, length) != 0 || cube(get32(bytes + 8)) > MOST_SCRATCH) return 144;
-    return rule_tree(&tree, bytes, want, lookup, order) ? tree_length(&tree) : 144;
+    return rule_tree(&tree, bytes, want, lookup, order) ? tree_length(tree.nodes, tree.ordered) : 144;
 }
 
-/* An accepted file builds, or is refused by 22 where the rule does so: up to g 8 with the length lent that is always enough, above with the
-   tree's own. Answers what build does, 0 where it was not called. */
+/* An accepted file builds, or is refused by 22 where the rule does so: up to g 8 with the length lent that the grid's costliest file needs,
+   above with the tree's own. Answers what build does, 0 where it was not called. */
 static uint64_t builds(const uint8_t *bytes, size_t length, bool at_end) {
-    uint64_t cells = cube(get32(bytes + 8)), room = 64 + 80 * (2 * cells - 1) + 4 * cells;
+    uint32_t g = get32(bytes + 8);
+    uint64_t cells = cube(g);
     if (cells > MOST_SCRATCH) return 0;
-    if (cells > 512) room = tree_needs(bytes, length);
+    uint64_t room = g <= 8 ? costliest_checked(g).bytes : tree_needs(bytes, length);
     lend_bytes(&file, bytes, length, at_end);
     lend_junk(&scratch, 4 * cells, at_end, 3);
     lend_junk(&out, room, at_end, 4);
@@ -268,11 +291,8 @@ static uint64_t fill_checked(const Body *body, const Lent *lists[2]) {
     if (answer == 18 || answer == 20) {
         memset(want, 0, out.length);
         check_bytes(&out, want, 0, out.length, "refused by 18 or 20");
-    } else if (answer < 64) {
-        check_kept(&out, 0, "refused");
     } else {
-        check_bytes(&out, want, 0, answer, "written");
-        check_kept(&out, answer, "past the length");
+        check_out(answer);
     }
     return answer;
 }
@@ -358,6 +378,54 @@ void case_build(const uint8_t *bytes, size_t length) {
     ready("build");
     lend_near(bytes, length, tree_needs);
     build_checked();
+}
+
+void case_costliest(const uint8_t *bytes, size_t length) {
+    ready("costliest");
+    In in = {bytes, bytes + length};
+    int calls = 0;
+    do {
+        costliest_checked(any_grid(&in));
+    } while (in.at < in.end && ++calls < 8);
+}
+
+/* Writes the costliest file of a grid into `out` as lent, and checks all of it. */
+static uint64_t write_checked(uint32_t g) {
+    uint64_t right = rule_write_costliest(g, out.length, want);
+    uint64_t answer = mascon_write_costliest(g, given(&out, out.length), out.length);
+    count(CALL_write_costliest, answer >= 64);
+    check_canaries(&out);
+    check_possible(answer, CAUSE(3) | CAUSE(9), out.length, 16);
+    check_answer(answer, right);
+    check_out(answer);
+    return answer;
+}
+
+/* The costliest file of a grid builds to exactly what is said of it; up to g 8, 9 refuses a byte less. */
+static void builds_costliest(const uint8_t *bytes, size_t length, bool at_end) {
+    uint32_t g = get32(bytes + 8);
+    MasconCost most = costliest_checked(g);
+    check_answer(builds(bytes, length, at_end), most.bytes);
+    if (get32(out.at + 56) != most.nodes) fail("a tree of %u nodes, not %llu", get32(out.at + 56), (unsigned long long)most.nodes);
+    if (g > 8) return;
+    lend_junk(&out, most.bytes - 1, at_end, 4);
+    check_answer(build_checked(), 9);
+}
+
+void case_write_costliest(const uint8_t *bytes, size_t length) {
+    ready("write_costliest");
+    In in = {bytes, bytes + length};
+    uint8_t flags = u8(&in);
+    bool at_end = flags & 1;
+    uint32_t g = any_grid(&in);
+    size_t most = flags < 240 ? MOST_FULL : MOST_TREE; // seldom above g 16, up to 69: those take long
+    uint64_t need = g <= 256 ? 64 + 16 * cube(g) : 64;
+    lend_junk(&out, length_near(&in, need <= most ? need : 64, most), at_end, 2);
+    uint64_t answer = write_checked(g);
+    if (answer < 64 || answer > MOST_OUT) return;
+    memcpy(opened, out.at, answer);
+    reopens(opened, answer, at_end);
+    if (flags & 2) builds_costliest(opened, answer, at_end);
 }
 
 static uint64_t edit_call(const Edit *edit, size_t file_length, size_t words) {

@@ -22,8 +22,9 @@ typedef struct {
 } Target;
 
 static const Target targets[] = {
-    {"narrow", case_narrow, 9}, {"inside", case_inside, 13}, {"fill", case_fill, 10},    {"open", case_open, 11}, {"fold", case_fold, 9},
-    {"build", case_build, 11},  {"put", case_put, 9},        {"remove", case_remove, 8}, {"undo", case_undo, 8},  {"history", case_history, 12},
+    {"narrow", case_narrow, 9}, {"inside", case_inside, 12}, {"fill", case_fill, 10},    {"open", case_open, 11}, {"fold", case_fold, 9},
+    {"build", case_build, 11},  {"put", case_put, 9},        {"remove", case_remove, 8}, {"undo", case_undo, 8},  {"history", case_history, 11},
+    {"costliest", case_costliest, 1}, {"write_costliest", case_write_costliest, 1},
 };
 #define TARGETS (sizeof targets / sizeof *targets)
 
@@ -132,7 +133,8 @@ static size_t generated(const Target *target, const Corpus *corpus, uint8_t *byt
     uint64_t way = below(4);
     if (way < 2) return mutated(corpus, bytes);
     size_t length = 4 + below(below(4) ? 120 : 400);
-    bool calm = way != 3; // zeros and small bytes
+    bool grids = target->make == case_costliest || target->make == case_write_costliest; // an input has them and a length, no more
+    bool calm = way != 3 && !grids; // zeros and small bytes
     for (size_t i = 0; i < length; i++) {
         uint64_t r = next();
         bytes[i] = (uint8_t)(calm && r >> 62 ? (r >> 61 & 1 ? 0 : r >> 8 & 15) : r);

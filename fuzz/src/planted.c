@@ -7,6 +7,11 @@ static uint32_t word(const uint8_t *at) { uint32_t v; memcpy(&v, at, 4); return 
 static void set_word(uint8_t *at, uint32_t v) { memcpy(at, &v, 4); }
 static int fault(int n) { return FAULT == n; }
 
+static uint64_t cells(uint32_t g) { return (uint64_t)g * g * g; }
+
+// Whether a file has as many records as its grid has cells, more than one.
+static int full(const uint8_t *file) { return word(file + 8) > 1 && word(file + 12) == cells(word(file + 8)); }
+
 // Whether a record names the cell of the one before it.
 static int neighbours(const uint8_t *file) {
     for (const uint8_t *record = file + 80; record < file + 64 + 16ull * word(file + 12); record += 16)
@@ -108,6 +113,7 @@ uint64_t __wrap_mascon_open(const uint8_t *file, size_t file_length, uint32_t *s
     if (fault(35) && answer == 21 && journal_length == 0) answer = 13;
     if (fault(36) && answer == 21 && !neighbours(file)) answer = mascon_fold(file, file_length, scratch, scratch_length, out, out_length);
     if (fault(54) && answer >= 64 && root_large(file)) answer = 22;
+    if (fault(102) && answer >= 64 && full(file)) answer = 21;
     (void)seen;
     return answer;
 }
@@ -191,6 +197,64 @@ MasconBuilt __wrap_mascon_build(const uint8_t *file, size_t file_length, uint32_
     if (fault(67) && built.answer >= 64 && large(greater(file, fabs))) built.answer = 22; // by the magnitudes
     if (fault(68) && built.answer >= 64 && refused_by_22 == 2) built.answer = 22;
     refused_by_22 = built.answer == 22;
+    if (fault(103) && built.answer == out_length && full(file)) built = (MasconBuilt){9, 0, 0};
     if (fault(22) && built.answer >= 64 && file_length > 64) ((uint8_t *)file)[28] ^= 1; // what is only read
     return built;
+}
+
+static MasconCost cost_of(uint32_t g, uint64_t nodes) { return (MasconCost){0, nodes, 64 + 80 * nodes + 4 * cells(g)}; }
+
+MasconCost __real_mascon_costliest(uint32_t g);
+MasconCost __wrap_mascon_costliest(uint32_t g) {
+    MasconCost cost = __real_mascon_costliest(fault(69) ? (uint16_t)g : g); // the grid's low 16 bits
+    int accepted = cost.answer == 0;
+    if (fault(70) && g == 77) return cost_of(g, cost.nodes + 2); // one grid
+    if (fault(71) && accepted) return cost_of(g, 2 * cells(g) - 1); // every cell a leaf
+    if (fault(72) && accepted) return cost_of(g, 2 * ((cells(g) + 7) / 8) - 1); // every leaf full
+    if (fault(73) && accepted) cost.bytes -= 64;
+    if (fault(74) && accepted) cost.bytes -= 4 * cells(g);
+    if (fault(75) && accepted) cost.answer = cost.bytes;
+    if (fault(76) && g == 256) cost = (MasconCost){3, 0, 0};
+    if (fault(77) && g == 257) cost = __real_mascon_costliest(256);
+    if (fault(78) && !accepted) cost.nodes = cost.bytes = 1;
+    return cost;
+}
+
+// Exchanges x and z of every record of a file with every cell.
+static void z_fastest(uint8_t *file, uint64_t length) {
+    for (uint8_t *record = file + 64; record < file + length; record += 16) {
+        uint8_t x = record[0];
+        record[0] = record[4];
+        record[4] = x;
+    }
+}
+
+uint64_t __real_mascon_write_costliest(uint32_t g, uint8_t *out, size_t out_length);
+uint64_t __wrap_mascon_write_costliest(uint32_t g, uint8_t *out, size_t out_length) {
+    const uint64_t need = 64 + 16 * cells(g);
+    if (fault(79) && out_length == need) return 9; // a byte too early
+    uint64_t answer = __real_mascon_write_costliest(fault(80) ? (uint16_t)g : g, out, out_length);
+    int written = answer >= 64;
+    if (fault(81) && answer == 3 && out_length < 64) answer = 9;
+    if (fault(82) && answer == 9 && out_length == need - 1) answer = need;
+    if (fault(83) && g == 256) answer = 3;
+    if (fault(84) && g == 257) answer = 9;
+    if (fault(85) && answer == 3 && out_length) out[out_length - 1] ^= 1;
+    if (fault(86) && answer == 9 && out_length) out[0] ^= 1;
+    if (fault(87) && written && answer < out_length) out[answer] ^= 1;
+    if (fault(88) && written && answer == out_length) out[answer] ^= 1;
+    if (fault(89) && written) answer -= 16;
+    if (fault(90) && written) memset(out + answer - 16, 0, 16); // the last record
+    if (fault(91) && written) set_word(out + 12, g);
+    if (fault(92) && written) set_word(out + 12, (uint16_t)cells(g));
+    if (fault(93) && written) set_word(out + 4, 2); // a tree's version
+    if (fault(94) && written) memmove(out + 40, out + 44, 16); // the box's max a float too early
+    if (fault(95) && written) out[28] = 1;
+    if (fault(96) && written) set_word(out + 20, 0x3f800000); // a cell volume
+    if (fault(97) && written) memset(out + 56, 1, 8); // raw sums
+    if (fault(98) && written) set_word(out + answer - 4, 0); // a mass
+    if (fault(99) && written) out[answer - 10] = 1; // a pad
+    if (fault(100) && written) z_fastest(out, answer);
+    if (fault(101) && written && g == 11) out[answer - 1] ^= 1; // one grid
+    return answer;
 }

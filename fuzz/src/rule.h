@@ -176,6 +176,14 @@ static void delete_record(uint8_t *file, uint32_t place) {
 
 static uint64_t rule_length(const uint8_t *file) { return 64 + 16ull * get32(file + 12); }
 
+/* A header with word 0, version and grid, all else 0. */
+static void bare_header(uint8_t *file, uint32_t g) {
+    memset(file, 0, 64);
+    set32(file, MARK);
+    set32(file + 4, 1);
+    set32(file + 8, g);
+}
+
 /* An edit on both buffers: the answer; both are changed where it is accepted. */
 static uint64_t rule_edit(uint8_t *file, size_t length, uint8_t *journal, size_t words, const Edit *edit) {
     unsigned cause = rule_judge(file, length);
@@ -247,11 +255,22 @@ static bool put_float(uint8_t *at, double x) {
     return true;
 }
 
+/* The axis along which a box is halved: the first of the widest. */
+static uint32_t widest(const uint32_t width[3]) {
+    uint32_t axis = 0;
+    for (uint32_t a = 1; a < 3; a++)
+        if (width[a] > width[axis]) axis = a;
+    return axis;
+}
+
+/* Whether a box with so many points, its widest side so wide, is halved. */
+static bool halved(uint64_t count, uint32_t width) { return count > 8 && width > 1; }
+
 /* Builds a box's node and what is below it; answers its point count. */
 static uint32_t rule_node(Tree *tree, const uint32_t low[3], const uint32_t high[3]) {
     uint8_t *node = tree->out + 64 + 80ull * tree->nodes++;
     double sums[2] = {0, 0}, moments[3][3] = {{0}}, centres[3][3] = {{0}}, links[2] = {-1, -1}, half = 0;
-    uint32_t count = 0, start = tree->ordered, width[3], axis = 0, leaf = 0;
+    uint32_t count = 0, start = tree->ordered, width[3], leaf = 0;
     for (uint32_t z = low[2]; z < high[2]; z++)
         for (uint32_t y = low[1]; y < high[1]; y++)
             for (uint32_t x = low[0]; x < high[0]; x++) {
@@ -268,7 +287,6 @@ static uint32_t rule_node(Tree *tree, const uint32_t low[3], const uint32_t high
             }
     for (int a = 0; a < 3; a++) {
         width[a] = high[a] - low[a];
-        if (width[a] > width[axis]) axis = (uint32_t)a;
         double side = width[a] * 0.5 * tree->cell[a];
         if (a == 0 || side > half) half = side;
         if (count == 0) continue;
@@ -276,10 +294,11 @@ static uint32_t rule_node(Tree *tree, const uint32_t low[3], const uint32_t high
             centres[m][a] = fabs(sums[m]) > 1e-30 ? moments[m][a] / sums[m] : (low[a] + high[a] - 1) * 0.5;
         centres[2][a] = moments[2][a] / count;
     }
-    if (count > 0 && (count <= 8 || width[axis] == 1)) {
+    uint32_t axis = widest(width);
+    if (!halved(count, width[axis])) { // a leaf, or empty
         leaf = count;
         tree->ordered += count;
-    } else if (count > 0) {
+    } else {
         uint32_t middle = low[axis] + width[axis] / 2, left_high[3], right_low[3];
         memcpy(left_high, high, sizeof left_high);
         memcpy(right_low, low, sizeof right_low);
@@ -299,7 +318,7 @@ static uint32_t rule_node(Tree *tree, const uint32_t low[3], const uint32_t high
     return count;
 }
 
-static uint64_t tree_length(const Tree *tree) { return 64 + 80ull * tree->nodes + 4ull * tree->ordered; }
+static uint64_t tree_length(uint64_t nodes, uint64_t ordered) { return 64 + 80 * nodes + 4 * ordered; }
 
 /* Works out the nodes and the order of a judged file, too large or not: false where two records name one cell. `want`, `lookup` and `order`
    have room for any tree of the grid. */
@@ -329,7 +348,7 @@ static uint64_t rule_build(const uint8_t *file, size_t length, size_t scratch, s
     Tree tree;
     if (!rule_tree(&tree, file, want, lookup, order)) return 21;
     if (tree.large) return 22;
-    uint64_t whole = tree_length(&tree);
+    uint64_t whole = tree_length(tree.nodes, tree.ordered);
     if (room < whole) return 9;
     uint32_t g = get32(file + 8), n = get32(file + 12);
     const uint32_t words[] = {0x314d5452u, 2, g, n, get32(file + 24), get32(file + 16), get32(file + 20), 0};
@@ -341,6 +360,40 @@ static uint64_t rule_build(const uint8_t *file, size_t length, size_t scratch, s
     *nodes = tree.nodes;
     *ordered = tree.ordered;
     return whole;
+}
+
+/* The nodes of a box whose every cell is occupied; equal halves are counted once. */
+static uint64_t full_nodes(const uint32_t width[3]) {
+    uint32_t axis = widest(width), left[3], right[3];
+    if (!halved((uint64_t)width[0] * width[1] * width[2], width[axis])) return 1;
+    memcpy(left, width, sizeof left);
+    memcpy(right, width, sizeof right);
+    left[axis] = width[axis] / 2;
+    right[axis] -= left[axis];
+    uint64_t nodes = full_nodes(left);
+    return 1 + nodes + (left[axis] == right[axis] ? nodes : full_nodes(right));
+}
+
+/* The costliest file of a grid: 0 with the nodes and the length of its tree, or 3. */
+static uint64_t rule_costliest(uint32_t g, uint64_t *nodes, uint64_t *length) {
+    static uint64_t counted[257];
+    *nodes = *length = 0;
+    if (g == 0 || g > 256) return 3;
+    if (!counted[g]) counted[g] = full_nodes((uint32_t[]){g, g, g});
+    *nodes = counted[g];
+    *length = tree_length(*nodes, cube(g));
+    return 0;
+}
+
+/* Writing it: the answer; the file in `want` where it is accepted. */
+static uint64_t rule_write_costliest(uint32_t g, size_t room, uint8_t *want) {
+    const uint32_t one = 0x3f800000u;
+    if (g == 0 || g > 256) return 3;
+    if (room < 64 + 16 * cube(g)) return 9;
+    bare_header(want, g);
+    for (int a = 0; a < 3; a++) set32(want + 44 + 4 * a, one);
+    for (uint32_t cell = 0; cell < cube(g); cell++) insert_record(want, cell, cell, one, one);
+    return rule_length(want);
 }
 
 /* Meshes. */

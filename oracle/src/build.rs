@@ -4,6 +4,7 @@ pub(crate) mod cases;
 #[cfg(test)]
 pub(crate) mod plain;
 
+use crate::costliest::above;
 use crate::ffi::{self, Built};
 use crate::lent::Buffers;
 use crate::open::cases::Case;
@@ -56,6 +57,7 @@ impl search::Desk for Desk {
             return Some(format!("library answers {got}, rule {want}"));
         }
         unlike(case, &self.lent, want.answer, &self.want_out)
+            .or_else(|| above(&case.file, want))
             .map(|what| format!("answer {want}, {what}"))
     }
 

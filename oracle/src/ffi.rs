@@ -6,6 +6,11 @@ unsafe extern "C" {
     // Takes and gives numbers, touches no memory: safe for every argument.
     safe fn mascon_narrow(x: f64) -> u64;
 
+    // As `mascon_narrow`.
+    safe fn mascon_costliest(g: u32) -> Cost;
+
+    fn mascon_write_costliest(g: u32, out: *mut u8, out_len: usize) -> u64;
+
     fn mascon_open(
         file: *const u8,
         file_len: usize,
@@ -105,9 +110,40 @@ impl Built {
     }
 }
 
+/// What costliest answers: 0, or the number of a cause; the greatest node count of a grid and the tree length that goes with it, both 0
+/// in a refusal.
+#[repr(C)]
+#[derive(Clone, Copy, Debug, PartialEq, Eq)]
+pub(crate) struct Cost {
+    pub(crate) answer: u64,
+    pub(crate) nodes: u64,
+    pub(crate) bytes: u64,
+}
+
+impl Cost {
+    pub(crate) fn refused(cause: u64) -> Self {
+        Self {
+            answer: cause,
+            nodes: 0,
+            bytes: 0,
+        }
+    }
+}
+
 /// The binary32 pattern of the binary64 number that `pattern` stands for, or 2^32 where it is too large.
 pub(crate) fn narrow(pattern: u64) -> u64 {
     mascon_narrow(f64::from_bits(pattern))
+}
+
+/// The numbers of a grid's costliest tree.
+pub(crate) fn costliest(g: u32) -> Cost {
+    mascon_costliest(g)
+}
+
+/// Writes the costliest point file of a grid: the length written, or the number of a cause.
+pub(crate) fn write_costliest(g: u32, out: &mut [u8]) -> u64 {
+    // SAFETY: as in `open`.
+    unsafe { mascon_write_costliest(g, out.as_mut_ptr(), out.len()) }
 }
 
 /// Opens a point file: the length written, or the number of a cause.

@@ -4,6 +4,7 @@
 
 mod bench;
 mod build;
+mod costliest;
 mod edit;
 #[allow(unsafe_code)]
 mod ffi;
@@ -31,13 +32,23 @@ use std::path::Path;
 use std::process::ExitCode;
 
 const USAGE: &str =
-    "usage: oracle check [all|narrow|open|fold|build|edit|fill|inside|stored|treeinfo|original]
-       oracle store narrow|open|build|edit|ray|inside|fill FILE
-       oracle verify-stored [narrow|open|build|edit|ray|inside|fill] FILE
-       oracle bench open|build|edit|inside|fill";
+    "usage: oracle check [all|narrow|open|fold|build|costliest|edit|fill|inside|stored|treeinfo|original]
+       oracle store narrow|open|build|edit|ray|inside|fill|cost|costliest FILE
+       oracle verify-stored [narrow|open|build|edit|ray|inside|fill|cost|costliest] FILE
+       oracle bench open|build|costliest|edit|inside|fill";
 
-const CHECKS: [&str; 11] = [
-    "all", "narrow", "open", "fold", "build", "edit", "fill", "inside", "stored", "treeinfo",
+const CHECKS: [&str; 12] = [
+    "all",
+    "narrow",
+    "open",
+    "fold",
+    "build",
+    "costliest",
+    "edit",
+    "fill",
+    "inside",
+    "stored",
+    "treeinfo",
     "original",
 ];
 
@@ -52,6 +63,7 @@ fn main() -> ExitCode {
         ["verify-stored", kind, file] => told(store::verify(kind, Path::new(file))),
         ["bench", "open"] => told(bench::open()),
         ["bench", "build"] => told(bench::build::build()),
+        ["bench", "costliest"] => told(bench::costliest::costliest()),
         ["bench", "edit"] => told(bench::edit::edit()),
         ["bench", "inside"] => told(bench::inside::inside()),
         ["bench", "fill"] => told(bench::fill::fill()),
@@ -100,6 +112,9 @@ fn check(what: &str) -> ExitCode {
     }
     if wanted("build") {
         build::check(&mut report);
+    }
+    if wanted("costliest") {
+        costliest::check(&mut report);
     }
     if wanted("edit") {
         edit::check(&mut report);

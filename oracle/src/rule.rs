@@ -1,5 +1,6 @@
 //! 01's rule for point files and for narrowing in plain steps, written from the paper and not from the library: slow, and meant to be read.
 
+pub(crate) mod costliest;
 pub(crate) mod edit;
 pub(crate) mod fill;
 pub(crate) mod tree;
@@ -85,6 +86,11 @@ pub(crate) fn cell_of(g: u64, number: u64) -> [u16; 3] {
     [number % g, number / g % g, number / g / g].map(|coordinate| coordinate as u16)
 }
 
+/// Whether a word is a grid size; if not, that is cause 3.
+fn is_grid(g: u32) -> bool {
+    (1..=GREATEST_GRID).contains(&g)
+}
+
 /// The first of the causes 1 to 7, or none.
 pub(crate) fn judge(file: &[u8]) -> Option<u64> {
     if file.len() < HEADER {
@@ -93,7 +99,7 @@ pub(crate) fn judge(file: &[u8]) -> Option<u64> {
     if word(file, 0) != MARK || word(file, 4) != VERSION {
         return Some(2);
     }
-    if word(file, 8) == 0 || word(file, 8) > GREATEST_GRID {
+    if !is_grid(word(file, 8)) {
         return Some(3);
     }
     if (file.len() as u64) < length(count(file)) {
@@ -162,7 +168,8 @@ pub(crate) fn cells(file: &[u8]) -> Vec<(u64, [u32; 2])> {
 
 /// The file in working form that has this header, n apart, and these cells, which ascend.
 fn working_form(header: &[u8], cells: impl ExactSizeIterator<Item = (u64, [u32; 2])>) -> Vec<u8> {
-    let mut file = header[..HEADER].to_vec();
+    let mut file = Vec::with_capacity(HEADER + RECORD * cells.len());
+    file.extend_from_slice(&header[..HEADER]);
     file[12..16].copy_from_slice(&(cells.len() as u32).to_le_bytes());
     for (number, masses) in cells {
         let [x, y, z] = cell_of(grid(header), number);

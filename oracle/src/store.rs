@@ -4,9 +4,12 @@
 //! that Rust gives, little endian; a NaN gives 0x7fc00000, and one that is not finite stands for too large.
 //! `open.bin`: see `store/open.rs`. `build.bin`: see `store/build.rs`.
 //! `edit.bin`: see `store/edit.rs`. `ray.bin`: see `store/ray.rs`. `inside.bin`: see `store/inside.rs`. `fill.bin`: see `store/fill.rs`.
+//! `cost.bin`: see `store/cost.rs`. `costliest.bin`: see `store/costliest.rs`.
 
 mod blocks;
 mod build;
+mod cost;
+mod costliest;
 mod edit;
 mod fill;
 mod inside;
@@ -113,6 +116,8 @@ fn bytes_of(kind: &str) -> Result<Vec<u8>, String> {
         "ray" => Ok(ray::bytes()),
         "inside" => Ok(blocks::bytes::<inside::Stored>()),
         "fill" => Ok(blocks::bytes::<fill::Stored>()),
+        "cost" => Ok(blocks::bytes::<cost::Stored>()),
+        "costliest" => Ok(blocks::bytes::<costliest::Stored>()),
         _ => Err(format!("no stored answers of the kind {kind:?}")),
     }
 }
@@ -157,6 +162,8 @@ pub(crate) fn check(report: &mut Report) {
     check_file(report, "ray.bin", ray::replay);
     check_file(report, "inside.bin", blocks::replay::<inside::Stored>);
     check_file(report, "fill.bin", blocks::replay::<fill::Stored>);
+    check_file(report, "cost.bin", blocks::replay::<cost::Stored>);
+    check_file(report, "costliest.bin", blocks::replay::<costliest::Stored>);
 }
 
 fn check_file(report: &mut Report, name: &str, replay: fn(&[u8]) -> Found) {
@@ -207,7 +214,17 @@ mod tests {
 
     #[test]
     fn stored_files_are_made_anew() {
-        for kind in ["narrow", "open", "build", "edit", "ray", "inside", "fill"] {
+        for kind in [
+            "narrow",
+            "open",
+            "build",
+            "edit",
+            "ray",
+            "inside",
+            "fill",
+            "cost",
+            "costliest",
+        ] {
             verify(kind, &folder().join(format!("{kind}.bin"))).unwrap();
         }
     }

@@ -188,6 +188,11 @@ fn fixed() -> Vec<Input> {
             of_cells(4, corner),
             "nodes 5 order 9 bytes 500",
         ),
+        said(
+            "g 8, the costliest",
+            rule::costliest::file(8),
+            "nodes 127 order 512 bytes 12272",
+        ),
         said("(192, 5, 0)", outside, "refused 6"),
         said("nothing", Vec::new(), "refused 1"),
         said("a header cut", plane()[..63].to_vec(), "refused 1"),
@@ -292,7 +297,7 @@ mod tests {
     #[test]
     fn the_rule_agrees_with_itself() {
         let by_rule = |input: &[u8]| Ok(line(input).into_bytes());
-        for (inputs, cases) in [(fixed(), 33), (small(), SMALL as u64)] {
+        for (inputs, cases) in [(fixed(), 34), (small(), SMALL as u64)] {
             let search = compare(by_rule, &inputs);
             assert_eq!((search.cases.apart(), search.mismatches), ((0, cases), 0));
         }

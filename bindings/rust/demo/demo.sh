@@ -32,6 +32,10 @@ echo "== Two lumpy balls that touch, as a mesh, and their kernels of density"
 run example .
 
 echo
+echo "== What a tree of 32 cells on each axis takes at most, before there is a file"
+run costliest 32
+
+echo
 echo "== Filled: 32 cells on each axis, 700 million tonnes"
 run fill binary.obj cauchy.txt --elliptic elliptic.txt --grid 32 --target 7e11 --density 1900 -o binary.rym1
 cp binary.rym1 before.rym1

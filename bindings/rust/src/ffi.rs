@@ -23,11 +23,19 @@ pub(crate) struct Built {
     pub(crate) order: u64,
 }
 
+/// What costliest answers.
+#[repr(C)]
+pub(crate) struct Cost {
+    pub(crate) answer: u64,
+    pub(crate) nodes: u64,
+    pub(crate) bytes: u64,
+}
+
 /// The library's calls. Each has a function of its name that makes it in the default mode, and is out of reach but for that.
 macro_rules! exported {
     ($(fn $name:ident($($argument:ident: $type:ty),* $(,)?) -> $answer:ty;)*) => {
         mod raw {
-            use super::Built;
+            use super::{Built, Cost};
 
             unsafe extern "C" {
                 $(pub(super) fn $name($($argument: $type),*) -> $answer;)*
@@ -130,6 +138,10 @@ exported! {
         out: *mut u8,
         out_length: usize,
     ) -> Built;
+
+    fn mascon_costliest(g: u32) -> Cost;
+
+    fn mascon_write_costliest(g: u32, out: *mut u8, out_length: usize) -> u64;
 }
 
 /// An answer as the length written, or as the refusal that a number below 64 is.
@@ -311,4 +323,17 @@ pub(crate) fn build(
     };
     let length = length(built.answer)?;
     Ok((length, built.nodes as usize, built.order as usize))
+}
+
+/// The greatest node count of a grid's trees, and that tree's length.
+pub(crate) fn costliest(g: u32) -> Result<(usize, usize), Refusal> {
+    let cost = unsafe { mascon_costliest(g) };
+    match cost.answer {
+        0 => Ok((cost.nodes as usize, cost.bytes as usize)),
+        cause => Err(refusal(cause)),
+    }
+}
+
+pub(crate) fn write_costliest(g: u32, out: &mut [u8]) -> Result<usize, Refusal> {
+    length(unsafe { mascon_write_costliest(g, out.as_mut_ptr(), out.len()) })
 }

@@ -4,6 +4,7 @@
 
 mod boxes;
 pub mod check;
+mod cost;
 mod departures;
 pub mod draw;
 mod ffi;
@@ -20,6 +21,7 @@ pub mod text;
 mod tree;
 mod twice;
 
+pub use cost::Cost;
 pub use departures::Departures;
 pub use fill::{
     build_mascon, is_inside, narrow, Kernel, Triangle, MAX_COORDINATE, MAX_KERNELS, MAX_SIGMA,

@@ -1,7 +1,7 @@
 use crate::points::{grid_of, records_of, scratch, HEADER, RECORD};
 use crate::twice::dropped;
 use crate::{
-    cells, ffi, floats, model_file, Dropped, Edit, Header, Kernel, ModelFile, ModelFileError,
+    cells, ffi, floats, model_file, Cost, Dropped, Edit, Header, Kernel, ModelFile, ModelFileError,
     OpenError, Point, Points, Refusal, Tree, TreeFloat, Triangle,
 };
 use std::collections::HashMap;
@@ -202,12 +202,34 @@ impl Model {
         let most = grid_of(bytes).map_or(0, |grid| cells(grid).min(records_of(bytes)));
         let mut file = vec![0; HEADER + RECORD * most];
         let length = call(&mut scratch(bytes), &mut file)?;
-        Ok(Model {
+        Ok(Model::unedited(file, length))
+    }
+
+    /// With nothing to undo.
+    fn unedited(file: Vec<u8>, length: usize) -> Model {
+        Model {
             file,
             length,
             journal: vec![0],
             redo: Vec::new(),
-        })
+        }
+    }
+
+    /// The most costly model of a grid, whose tree has exactly the nodes and bytes of [`Cost`]: a point in every cell, all masses 1, the
+    /// box from 0 to 1 on each axis, density, cell volume, scale and raw sums 0. Its [`as_bytes`](Model::as_bytes) is the point file.
+    ///
+    /// ```
+    /// let model = mascon::Model::costliest(8)?;
+    /// assert_eq!((model.len(), model.tree()?.node_count()), (512, 127));
+    /// # Ok::<(), mascon::Refusal>(())
+    /// ```
+    ///
+    /// # Errors
+    /// 3.
+    pub fn costliest(grid: u32) -> Result<Model, Refusal> {
+        let mut file = vec![0; Cost::of(grid)?.file_bytes];
+        let length = ffi::write_costliest(grid, &mut file)?;
+        Ok(Model::unedited(file, length))
     }
 
     /// Fills a mesh and opens the result; see [`build_mascon`](crate::build_mascon).

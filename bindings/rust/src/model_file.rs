@@ -18,7 +18,11 @@ const NEW_JOURNAL: &str = ".journal.pending";
 const NEW_MODEL: &str = ".pending";
 
 /// How long another run is given to finish what it does before one looks again, in milliseconds.
-const WAITS: [u64; 4] = if cfg!(test) { [0; 4] } else { [1, 4, 16, 64] };
+const WAITS: [u64; 5] = if cfg!(test) {
+    [0; 5]
+} else {
+    [1, 4, 16, 64, 256]
+};
 
 /// The journal file of a model file.
 pub fn journal_path(model: impl AsRef<Path>) -> PathBuf {

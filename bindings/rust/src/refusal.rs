@@ -88,7 +88,7 @@ refusals! {
         "lend grid³ words, or one float for each triangle; this crate does so by itself";
     /// This crate lends enough, so that it is not seen.
     OutputTooShort = 9, "output too short",
-        "lend a longer output; this crate does so by itself";
+        "lend a longer output, for a tree what `Cost::of` answers for its grid; this crate does so by itself";
     NotWorkingForm = 10, "not in working form",
         "open the file first, or fold it where it names a cell twice: edits take records ascending by cell, one for each cell, pad 0";
     BadJournal = 11, "journal without words, with wrong top bits or count, or with entries missing",

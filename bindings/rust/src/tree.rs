@@ -1,6 +1,6 @@
 use crate::check::{check_tree, Fault};
-use crate::points::{float_at, floats_at, grid_of, judged, records_of, scratch, word_at, HEADER};
-use crate::{cells, ffi, OpenError, Refusal};
+use crate::points::{float_at, floats_at, grid_of, judged, scratch, word_at, HEADER};
+use crate::{ffi, Cost, OpenError};
 use std::io;
 use std::path::Path;
 
@@ -88,35 +88,28 @@ pub struct Tree {
     order: usize,
 }
 
+/// Output for the tree of a file: enough for every file of its grid. Memory is taken up where the tree is written, not before.
+fn output(file: &[u8]) -> Vec<u8> {
+    let cost = grid_of(file).and_then(|grid| Cost::of(grid).ok());
+    vec![0; cost.map_or(0, |cost| cost.bytes)]
+}
+
 impl Tree {
     /// Builds the tree of a point file, in working form or not. The order names points by their place in that file.
     ///
     /// # Errors
     /// 1 to 7; 21, with the records; 22, with the float that is too large.
     pub fn build(file: &[u8]) -> Result<Tree, OpenError> {
-        // At most one order word and one node to a cell.
-        let most = grid_of(file).map_or(0, cells);
-        let count = records_of(file);
-        // Most trees have fewer nodes than half their points; where that is short, twice as many, up to what always is enough.
-        let mut nodes = (count / 2 + 256).min(most);
-        let mut scratch = scratch(file);
-        loop {
-            let mut out = vec![0; HEADER + NODE * nodes + 4 * count.min(most)];
-            match ffi::build(file, &mut scratch, &mut out) {
-                Ok((length, nodes, order)) => {
-                    out.truncate(length);
-                    out.shrink_to_fit();
-                    let bytes = out;
-                    return Ok(Tree {
-                        bytes,
-                        nodes,
-                        order,
-                    });
-                }
-                Err(Refusal::OutputTooShort) if nodes < most => nodes = (2 * nodes).min(most),
-                Err(refusal) => return Err(OpenError::of(refusal, file)),
-            }
-        }
+        let mut bytes = output(file);
+        let (length, nodes, order) = ffi::build(file, &mut scratch(file), &mut bytes)
+            .map_err(|refusal| OpenError::of(refusal, file))?;
+        bytes.truncate(length);
+        bytes.shrink_to_fit();
+        Ok(Tree {
+            bytes,
+            nodes,
+            order,
+        })
     }
 
     /// Judges a point file as [`build`](Tree::build) does, without writing the tree.

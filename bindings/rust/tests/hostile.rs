@@ -4,7 +4,7 @@ mod common;
 
 use common::{file, record, Folder, Rng};
 use mascon::check::{check_floats, check_points, check_tree, check_working_form};
-use mascon::{parse_mascon_bytes, shapes, text, Model, ModelFile, Refusal, Tree};
+use mascon::{parse_mascon_bytes, shapes, text, Cost, Model, ModelFile, Refusal, Tree};
 
 /// Some bytes changed, some inserted, some cut off.
 fn mutated(rng: &mut Rng, good: &[u8]) -> Vec<u8> {
@@ -49,6 +49,9 @@ fn point_files() {
         let large = built.as_ref().is_err_and(|e| *e == Refusal::FloatTooLarge);
         assert_eq!(report.is_clean(), built.is_ok() || large);
         assert_eq!(check_floats(&bytes, 5).is_clean(), !large);
+        if let Ok(tree) = built {
+            assert!(tree.node_count() <= Cost::of(tree.grid()).unwrap().nodes);
+        }
         let opened = Model::open(&bytes);
         let twice = opened.as_ref().is_err_and(|e| *e == Refusal::CellTwice);
         let fold = Model::fold(&bytes);

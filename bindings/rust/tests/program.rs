@@ -483,7 +483,13 @@ fn standard_streams() {
     };
     let info = run("info -").stdin(open("m.rym1")).output().unwrap();
     assert!(String::from_utf8(info.stdout).unwrap().contains("grid"));
-    for line in ["info m.rym1", "check m.rym1", "log m.rym1", "help"] {
+    for line in [
+        "info m.rym1",
+        "check m.rym1",
+        "log m.rym1",
+        "costliest 8",
+        "help",
+    ] {
         let ran = run(line).stdout(full()).output().unwrap();
         assert_eq!(ran.status.code(), Some(1), "{line}");
         let err = String::from_utf8(ran.stderr).unwrap();
@@ -600,6 +606,7 @@ fn common_to_all_commands() {
         "--quiet undo w",
         "undo w --quiet",
         "build --quiet w -o t",
+        "costliest 2 -o c --quiet",
         "draw w -o w.svg --quiet",
         "example --quiet e --rings 4",
     ] {

@@ -5,17 +5,17 @@ use mathlib.Core.Bool.{Bool, true, false, cond, _&&_, _||_}
 use mathlib.Core.List.{List, [], _∷_, _++_, append-assoc}
 use native.Mathlib.Omega.{arith}
 use lib.ListN.{length, getD, drop, replicate, length-append}
-use lib.Dec.{eqb, ltb}
+use lib.Dec.{ltb}
 use lib.Ieee.{Float, binary32, ofBits, lt}
-use borrow.Author.Tests.{ltb-false, eqb-false, not-false, le-leb}
+use borrow.Author.Tests.{ltb-false, not-false, le-leb}
 use Rattle.float.specs.Narrow.{floatWord}
-use Rattle.rym1.specs.Bytes.{word, le, wordsBytes, splice}
+use Rattle.rym1.specs.Bytes.{word, wordsBytes, splice}
 use Rattle.rym1.specs.Causes.{when, Outcome, outcome, refuse}
-use Rattle.rym1.specs.File.{grid, count, density, volume, scale, boxMin, boxMax, pointsAt, points, pointsBytes, size, cube, finite, allFinite, headerFloats, below, pointsCause, fileCause, working, workCause}
+use Rattle.rym1.specs.File.{grid, count, density, volume, scale, boxMin, boxMax, pointsAt, points, pointsBytes, size, cube, finite, allFinite, headerFloats, below, gridCause, pointsCause, fileCause, working, workCause}
 use Rattle.rym1.specs.Cells.{cellPoint}
-use Rattle.rym1.proofs.Bytes.{length-le, length-splice, length-words, word-append-right, word-le-fits}
+use Rattle.rym1.proofs.Bytes.{length-splice, length-words, word-at}
 use Rattle.rym1.proofs.Causes.{or-false-l, or-false-r, and-true-l, and-true-r, when-zero, first-zero-l, first-zero-r, first-none, first-small, when-small}
-use Rattle.rym1.proofs.Accepted.{Finite, Accepted, by-none, finite-fits}
+use Rattle.rym1.proofs.Accepted.{Finite, Accepted, grid-right, by-none, finite-fits}
 use Rattle.rym1.proofs.Points.{AllFit, length-points, points-at}
 use Rattle.rym1.proofs.Cells.{cube-few, cell-of-point, point-cause, point-fits}
 use Rattle.filling.specs.declared.Triangle.{Triangle}
@@ -25,17 +25,7 @@ use Rattle.filling.specs.Frame.{middle}
 use Rattle.filling.specs.Fill.{Task, capacity, innerFrom, inner, frameOf, cellsOf, recordOf, recordsOf, measures, corners, rawSums, headerWords, fileBytes}
 use Rattle.filling.specs.Fill.{belowNarrowed, flat, boxFlat, massesFinite, floatsFinite, listsWrong, fillCause, cleared, filled, fill}
 
--- ---- words and floats on end
-
--- a word that was written is read
-word-at : (ws q : List ℕ) (i : ℕ) → i < length ws → getD ws i 0 < 4294967296 → word 4 (wordsBytes ws ++ q) (4 * i) ≡ getD ws i 0
-unfolding wordsBytes
-word-at [] q i h low = absurd (omega arith)
-word-at (w ∷ ws) q zero h low = rw (append-assoc (le 4 w) (wordsBytes ws) q) (word-le-fits 4 w [] (wordsBytes ws ++ q) 0 refl low)
-word-at (w ∷ ws) q (suc i) h low =
-    let there : 4 * suc i ≡ length (le 4 w) + 4 * i = omega (arith, length-le 4 w) in
-    rw (append-assoc (le 4 w) (wordsBytes ws) q, there)
-    (word-append-right 4 (le 4 w) (wordsBytes ws ++ q) (4 * i) ∙ word-at ws q i (omega arith) low)
+-- ---- floats on end
 
 finite-left : (a b : List ℕ) → allFinite (a ++ b) ≡ true → allFinite a ≡ true
 unfolding allFinite
@@ -128,7 +118,7 @@ record Written (t : Task) (out : List ℕ) (done : Outcome (List ℕ)) : Type 0 
 cause-small : (t : Task) (floats : ℕ) (out : List ℕ) → fillCause t floats out < 64
 unfolding fillCause
 cause-small t floats out =
-    first-small _ _ (when-small _ 3 (omega arith))
+    first-small _ _ (unfold gridCause in when-small _ 3 (omega arith))
     (first-small _ _ (when-small _ 17 (omega arith))
     (first-small _ _ (when-small _ 8 (omega arith))
     (first-small _ _ (when-small _ 9 (omega arith))
@@ -162,19 +152,18 @@ module _ (t : Task) (floats : ℕ) (out : List ℕ) where
   unfolding fill fillCause floatsFinite
   written h =
       let passed = not-refused (fillCause t floats out) (cause-small t floats out) (filled t out) h in
-      let off = eqb (t .grid) 0 || ltb 256 (t .grid) in
       let wrong = listsWrong (t .mesh) (t .cauchy) (t .elliptic) (t .target) (t .density) in
       let short = ltb (length out) (size (capacity (t .grid))) in
-      let k17 = first-zero-r (when off 3) _ (passed .0) in
+      let k17 = first-zero-r (gridCause (t .grid)) _ (passed .0) in
       let k8 = first-zero-r (when wrong 17) _ k17 in
       let k9 = first-zero-r (when _ 8) _ k8 in
       let k19 = first-zero-r (when short 9) _ k9 in
-      let on = when-zero off 2 (first-zero-l (when off 3) _ (passed .0)) in
+      let on = grid-right (t .grid) (first-zero-l (gridCause (t .grid)) _ (passed .0)) in
       let left = by-length (rw (passed .1) at h) in
       let half = ltb-false (capacity (t .grid)) (length (cellsOf t)) (left .0) in
       record {
-        pos = omega (arith, eqb-false (t .grid) 0 (or-false-l (eqb (t .grid) 0) (ltb 256 (t .grid)) on));
-        few = ltb-false 256 (t .grid) (or-false-r (eqb (t .grid) 0) (ltb 256 (t .grid)) on);
+        pos = on .0;
+        few = on .1;
         room = roomy half (ltb-false (length out) (size (capacity (t .grid))) (when-zero short 8 (first-zero-l (when short 9) _ k9)));
         half = half;
         box = when-zero (boxFlat (frameOf t)) 18 k19;

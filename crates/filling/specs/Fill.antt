@@ -10,7 +10,7 @@ use Rattle.float.specs.Number.{zero64, one64, tiny, abs}
 use Rattle.rym1.specs.declared.Point.{Point}
 use Rattle.rym1.specs.Bytes.{wordsBytes, splice}
 use Rattle.rym1.specs.Causes.{when, first, Outcome, outcome, refuse}
-use Rattle.rym1.specs.File.{size, cube, finite, allFinite, pointsBytes}
+use Rattle.rym1.specs.File.{size, cube, gridCause, finite, allFinite, pointsBytes}
 use Rattle.rym1.specs.Cells.{cellPoint}
 use Rattle.filling.specs.declared.Triangle.{Triangle}
 use Rattle.filling.specs.declared.Kernel.{Kernel}
@@ -147,7 +147,7 @@ listsWrong m c e target density =
 -- 3; 17; 8, fewer floats than triangles; 9, no room for half the cells; 19
 unfoldable pub fillCause : Task → ℕ → List ℕ → ℕ
 fillCause t floats out =
-    first (when (eqb (t .grid) 0 || ltb 256 (t .grid)) 3)
+    first (gridCause (t .grid))
     (first (when (listsWrong (t .mesh) (t .cauchy) (t .elliptic) (t .target) (t .density)) 17)
     (first (when (ltb floats (length (t .mesh) / 72)) 8)
     (first (when (ltb (length out) (size (capacity (t .grid)))) 9)

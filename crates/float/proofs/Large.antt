@@ -1,31 +1,25 @@
 -- The answer of narrowing: which numbers are too large, for every exponent and fraction length, and what a finite answer is. Assumes nothing.
 use mathlib.Core.Path.{_≡_, refl, sym, ap, _∙_, subst}
 use mathlib.Core.Bool.{Bool, true, false, not, cond, true≢false}
-use Prim.Native.Nat.{ℕ, _+_, _-_, _*_, _/_, _%_, _^_, _≤_, _<_, compare}
-use native.Mathlib.Nat.{le-of-eq, le-trans, lt-of-le-of-lt, mod-lt, mod-eq-of-lt, mul-lt-mul-of-pos-right, mul-le-mul, div-one}
+use Prim.Native.Nat.{ℕ, _+_, _-_, _*_, _/_, _%_, _^_, _≤_, _<_}
+use native.Mathlib.Nat.{le-of-eq, mod-lt, mod-eq-of-lt, mul-lt-mul-of-pos-right}
 use native.Mathlib.Decide.{ℕ-discrete}
 use native.Mathlib.Omega.{arith}
 use lib.Dec.{T, eqb, leb, lit≤}
 use lib.Arith.{digits-lt, digits-mod}
-use lib.Pow.{pow-add, pow-pos, pow-lt, pow-mono}
+use lib.Pow.{pow-add, pow-pos, pow-lt}
 use borrow.Author.Tests.{lt-ltb, le-leb, lt-leb, eq-eqb, ne-eqb, leb-true, leb-false}
-use lib.Ieee.{Float, nan, inf, fin, binary32, binary64, fits, size, round, ofInt, ofBits, toBits, ne}
-use lib.Ieee.Digits.{size-le}
-use lib.Ieee.Exact.{HasValue}
-use lib.Ieee.Fits.{nearest-le, kept-lt}
-use lib.Ieee.Nearest.{closest}
-use lib.Ieee.Scale.{grid, overflow, finite, round-val}
-use lib.Ieee.Back.{round-whole}
+use lib.Ieee.{Float, binary32, binary64, fits, ofBits, toBits, ne}
+use lib.Ieee.Scale.{finite}
 use lib.Ieee.Bits.{toBits-lt}
 use Rattle.float.specs.declared.Narrowed.{Narrowed}
 use Rattle.float.specs.declared.Narrowed.the-variants.{Finite, TooLarge}
 use Rattle.float.specs.Layout.{full, lowest, infinity, quiet, signField, expField, fracField, magnitude}
 use Rattle.float.specs.Rule.{threshold}
-use Rattle.float.specs.Number.{num}
 use Rattle.float.specs.Narrow.{narrow64, narrowed, tooLarge, narrowing, isLarge, floatWord, Told}
 use Rattle.float.proofs.Generic.{narrow-rounds, narrow-infinite, narrow-nan}
 use Rattle.float.proofs.Finite.{bits-finite}
-use Rattle.float.proofs.Kit.{is-nan, back, narrow-value, narrowed-value, narrowed-fits}
+use Rattle.float.proofs.Kit.{is-nan, back, narrow-value, narrowed-fits}
 
 -- ---- the code's three ways
 
@@ -126,31 +120,3 @@ large-is x held =
     go true false q = refl
     go false true q = refl
     go false false q = absurd (true≢false q)
-
--- ---- a whole number of 32 bits is never too large
-
-value-finite : (x : Float) (s : Bool) (a c : ℕ) → HasValue x s a c → finite x ≡ true
-value-finite nan s a c v = absurd v
-value-finite (inf t) s a c v = absurd v
-value-finite (fin t m e) s a c v = refl
-
--- rounded to 24 digits it is at most 2^32, in units of 2^-149
-whole-under : (n : ℕ) → n < 2 ^ 32 → grid binary32 n 1 < overflow binary32
-whole-under n h =
-    let w = n * 2 ^ 149 / 1 in
-    let k = size w - 24 in
-    let whole : w ≡ n * 2 ^ 149 = div-one (n * 2 ^ 149) in
-    let under : w < 2 ^ 181 = rw (whole, pow-add 2 32 149) (mul-lt-mul-of-pos-right h (pow-pos 149)) in
-    let few : k ≤ 157 = omega (arith, size-le w 181 under) in
-    let unit : 1 * 2 ^ k ≡ 2 ^ k = omega arith in
-    let kept : closest (n * 2 ^ 149) (1 * 2 ^ k) ≤ 2 ^ 24 =
-    le-trans (nearest-le (n * 2 ^ 149 / (1 * 2 ^ k)) (compare (n * 2 ^ 149 % (1 * 2 ^ k) * 2) (1 * 2 ^ k))) (rw unit (subst (λ (y : ℕ). y / 2 ^ k < 2 ^ 24) whole (kept-lt 24 w))) in
-    lt-of-le-of-lt (mul-le-mul kept (pow-mono few)) (lit≤ tt)
-
-pub whole-small : (n : ℕ) → n < 2 ^ 32 → isLarge (narrowing (num n)) ≡ false
-unfolding ofInt narrowing isLarge
-whole-small n h =
-    let wide : n ≤ 2 ^ 53 = omega arith in
-    let is : narrowed (num n) ≡ round binary32 false n 1 = narrowed-value (round binary64 false n 1) false n 1 (omega arith) (round-whole binary64 false n wide) in
-    let fine : finite (narrowed (num n)) ≡ true = rw is (value-finite (round binary32 false n 1) false (grid binary32 n 1) (2 ^ 149) (round-val binary32 n 1 (whole-under n h))) in
-    rw fine

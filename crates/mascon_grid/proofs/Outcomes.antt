@@ -7,17 +7,19 @@ use native.Mathlib.Omega.{arith}
 use lib.ListN.{length, drop, replicate, length-append}
 use lib.Dec.{ltb}
 use lib.Ieee.{Float}
-use borrow.Author.Tests.{lt-ltb, le-ltb, eq-eqb, ne-eqb, ltb-false, not-true, not-false}
+use borrow.Author.Tests.{lt-ltb, le-ltb, ne-eqb, ltb-false, not-true, not-false}
 use Rattle.float.specs.Narrow.{floatWord, floatWords}
 use Rattle.float.specs.Number.{zero64, one64}
-use Rattle.rym1.specs.declared.Cause.the-variants.{GridOutside, ListWrong, ScratchShort, OutputShort, BoxFlat, CapacityExceeded, FloatNotFinite}
+use Rattle.rym1.specs.declared.Cause.{Cause}
+use Rattle.rym1.specs.declared.Cause.the-variants.{ListWrong, ScratchShort, OutputShort, BoxFlat, CapacityExceeded, FloatNotFinite}
 use Rattle.rym1.specs.declared.Answer.{Answer}
 use Rattle.rym1.specs.declared.Answer.the-variants.{Refused}
 use Rattle.rym1.specs.declared.Point.{Point}
 use Rattle.rym1.specs.Bytes.{splice, wordsBytes}
 use Rattle.rym1.specs.Causes.{number, told, when, first, Outcome, outcome, refuse}
-use Rattle.rym1.specs.File.{size, finite, allFinite, pointsBytes}
-use Rattle.rym1.proofs.Causes.{or-false-l}
+use Rattle.rym1.specs.File.{size, gridCause, finite, allFinite, pointsBytes}
+use Rattle.rym1.proofs.Causes.{or-false-l, first-found, refuse-found}
+use Rattle.rym1.proofs.Accepted.{grid-right}
 use Rattle.rym1.proofs.Bytes.{drop-splice}
 use Rattle.rym1.proofs.Points.{AllFit}
 use Rattle.filling.specs.declared.Frame.{Frame}
@@ -248,73 +250,66 @@ abbrev Filling : Task → List Float → List ℕ → Answer → List Float → 
 Filling t s out r s′ out′ = (outcome (told r) out′ ≡ fill t (length s) out) × (early (told r) ≡ true → s′ ≡ s)
 
 module _ (g : ℕ) (m c e : List ℕ) (target density : Float) (s : List Float) (out : List ℕ) where
-  pub way-none : g ≡ 0 → Filling (task g m c e target density) s out (Refused GridOutside) s out
-  unfolding fill fillCause first when refuse outcome told number
-  way-none h = (rw (eq-eqb g 0 h), λ _. refl)
+  pub way-3 : (cause : Cause) → number cause ≡ gridCause g → 0 < gridCause g → Filling (task g m c e target density) s out (Refused cause) s out
+  unfolding fill fillCause told
+  way-3 cause is h = (rw (is, first-found (gridCause g) (first (when _ 17) _) h) (sym (refuse-found (gridCause g) out _ h)), λ _. refl)
 
-  module _ (some : g ≡ 0 → ⊥) where
-    pub way-fine : 256 < g → Filling (task g m c e target density) s out (Refused GridOutside) s out
+  module _ (ok : gridCause g ≡ 0) {b : Bool} (eb : b ≡ listsWrong m c e target density) where
+    pub way-17 : b ≡ true → Filling (task g m c e target density) s out (Refused ListWrong) s out
     unfolding fill fillCause first when refuse outcome told number
-    way-fine h = (rw (ne-eqb g 0 some, lt-ltb 256 g h), λ _. refl)
+    way-17 h = (rw (ok, ← eb, h), λ _. refl)
 
-    module _ (few : g ≤ 256) {b : Bool} (eb : b ≡ listsWrong m c e target density) where
-      pub way-17 : b ≡ true → Filling (task g m c e target density) s out (Refused ListWrong) s out
+    module _ (right : b ≡ false) where
+      pub way-8 : length s < length m / 72 → Filling (task g m c e target density) s out (Refused ScratchShort) s out
       unfolding fill fillCause first when refuse outcome told number
-      way-17 h = (rw (ne-eqb g 0 some, le-ltb 256 g few, ← eb, h), λ _. refl)
+      way-8 h = (rw (ok, ← eb, right, lt-ltb (length s) (length m / 72) h), λ _. refl)
 
-      module _ (right : b ≡ false) where
-        pub way-8 : length s < length m / 72 → Filling (task g m c e target density) s out (Refused ScratchShort) s out
-        unfolding fill fillCause first when refuse outcome told number
-        way-8 h = (rw (ne-eqb g 0 some, le-ltb 256 g few, ← eb, right, lt-ltb (length s) (length m / 72) h), λ _. refl)
+      module _ (scratch : length m / 72 ≤ length s) (k : ℕ) (ek : k ≡ capacity g) where
+        pub way-9 : length out < 64 + 16 * k → Filling (task g m c e target density) s out (Refused OutputShort) s out
+        unfolding fill fillCause first when refuse outcome told number size
+        way-9 h =
+            (rw (ok, ← eb, right, le-ltb (length s) (length m / 72) scratch, ← ek, lt-ltb (length out) (64 + 16 * k) h), λ _. refl)
 
-        module _ (scratch : length m / 72 ≤ length s) (k : ℕ) (ek : k ≡ capacity g) where
-          pub way-9 : length out < 64 + 16 * k → Filling (task g m c e target density) s out (Refused OutputShort) s out
-          unfolding fill fillCause first when refuse outcome told number size
-          way-9 h =
-              (rw (ne-eqb g 0 some, le-ltb 256 g few, ← eb, right, le-ltb (length s) (length m / 72) scratch, ← ek, lt-ltb (length out) (64 + 16 * k) h), λ _. refl)
+        module _ (room : 64 + 16 * k ≤ length out) where
+          pub ready : Ready m g s out
+          unfolding size listsWrong
+          ready = record { some = grid-right g ok .0; few = grid-right g ok .1; good = mesh-good m (or-false-l (meshWrong m) _ (sym eb ∙ right)); scratch = scratch; room = rw (← ek) room }
 
-          module _ (room : 64 + 16 * k ≤ length out) where
-            pub ready : Ready m g s out
-            unfolding size listsWrong
-            ready = record { some = omega arith; few = few; good = mesh-good m (or-false-l (meshWrong m) _ (sym eb ∙ right)); scratch = scratch; room = rw (← ek) room }
+          module _ (f : Frame) (ef : f ≡ frame (bounds (mesh m)) g) {q : Bool} (eq : q ≡ boxFlat f) where
+            pub way-19 : q ≡ true → Filling (task g m c e target density) s out (Refused BoxFlat) s out
+            unfolding fill fillCause first when refuse outcome told number size frameOf
+            way-19 h = (
+              rw (
+                ok,
+                ← eb,
+                right,
+                le-ltb (length s) (length m / 72) scratch,
+                ← ek,
+                le-ltb (length out) (64 + 16 * k) room,
+                ← ef,
+                ← eq,
+                h,
+              ),
+              λ _. refl,
+            )
 
-            module _ (f : Frame) (ef : f ≡ frame (bounds (mesh m)) g) {q : Bool} (eq : q ≡ boxFlat f) where
-              pub way-19 : q ≡ true → Filling (task g m c e target density) s out (Refused BoxFlat) s out
-              unfolding fill fillCause first when refuse outcome told number size frameOf
-              way-19 h = (
-                rw (
-                  ne-eqb g 0 some,
-                  le-ltb 256 g few,
-                  ← eb,
-                  right,
-                  le-ltb (length s) (length m / 72) scratch,
-                  ← ek,
-                  le-ltb (length out) (64 + 16 * k) room,
-                  ← ef,
-                  ← eq,
-                  h,
-                ),
-                λ _. refl,
-              )
-
-              pub way-filled : q ≡ false → (r : Answer) (s′ : List Float) (out′ : List ℕ) → outcome (told r) out′ ≡ filled (task g m c e target density) out
-                  → Filling (task g m c e target density) s out r s′ out′
-              unfolding fill fillCause first when refuse size frameOf outcome
-              way-filled h r s′ out′ done =
-                  let t = task g m c e target density in
-                  let answer : told r ≡ filled t out .answer = ap (λ (o : Outcome (List ℕ)). o .answer) done in (
-                    done
-                        ∙ rw (
-                          ne-eqb g 0 some,
-                          le-ltb 256 g few,
-                          ← eb,
-                          right,
-                          le-ltb (length s) (length m / 72) scratch,
-                          ← ek,
-                          le-ltb (length out) (64 + 16 * k) room,
-                          ← ef,
-                          ← eq,
-                          h,
-                        ),
-                    λ soon. absurd (true≢false (sym soon ∙ ap early answer ∙ filled-late t out)),
-                  )
+            pub way-filled : q ≡ false → (r : Answer) (s′ : List Float) (out′ : List ℕ) → outcome (told r) out′ ≡ filled (task g m c e target density) out
+                → Filling (task g m c e target density) s out r s′ out′
+            unfolding fill fillCause first when refuse size frameOf outcome
+            way-filled h r s′ out′ done =
+                let t = task g m c e target density in
+                let answer : told r ≡ filled t out .answer = ap (λ (o : Outcome (List ℕ)). o .answer) done in (
+                  done
+                      ∙ rw (
+                        ok,
+                        ← eb,
+                        right,
+                        le-ltb (length s) (length m / 72) scratch,
+                        ← ek,
+                        le-ltb (length out) (64 + 16 * k) room,
+                        ← ef,
+                        ← eq,
+                        h,
+                      ),
+                  λ soon. absurd (true≢false (sym soon ∙ ap early answer ∙ filled-late t out)),
+                )

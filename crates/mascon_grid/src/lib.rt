@@ -22,6 +22,8 @@ use float::Narrowed;
 use float::pattern::f32_to_bits;
 use model::mesh_wrong;
 use model::up_to;
+use points::judge::grid_cause;
+use points::judge::is_refused;
 use rym1::Answer;
 use rym1::Cause;
 use scaling::header_floats;
@@ -131,11 +133,9 @@ pub fn build_mascon(
         (length (now (floats .entry))) (now (out .entry)))
         × (early (told r) ≡ true → now (floats .exit) ≡ now (floats .entry)) ⌝ }
 {
-    if g == 0 {
-        return Answer::Refused(Cause::GridOutside);
-    }
-    if 256 < g {
-        return Answer::Refused(Cause::GridOutside);
+    let cause = grid_cause(g);
+    if is_refused(cause) {
+        return Answer::Refused(cause);
     }
     if lists_wrong(s, cauchy, elliptic, target, density) {
         return Answer::Refused(Cause::ListWrong);

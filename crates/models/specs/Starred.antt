@@ -1,4 +1,4 @@
--- The starred models of 01 as one table, and K2's cases. For trees the files stand as words, the trees whole, as the original writes them; for edits as bytes; crossings as
+-- The starred models of 01 as one table, and cases of K2 and K3. For trees the files stand as words, the trees whole, as the original writes them; for edits as bytes; crossings as
 -- binary64 patterns.
 use Prim.Native.Nat.{ℕ}
 use mathlib.Core.List.{List, [], _∷_, _++_}
@@ -9,6 +9,10 @@ pub data Row : Type 0 where
   narrows : ℕ → ℕ → Row
   -- a point file and how many words of scratch are lent; the answer, node and order counts, and the tree
   builds : List ℕ → ℕ → ℕ → ℕ → ℕ → List ℕ → Row
+  -- a grid; the answer, and its most costly tree's nodes and bytes
+  costs : ℕ → ℕ → ℕ → ℕ → Row
+  -- a grid and how many bytes are lent; the answer, and the file
+  writes : ℕ → ℕ → ℕ → List ℕ → Row
   -- a buffer of bytes with an opened file, and a journal; calls; the answers, and what is left in the two
   edits : List ℕ → List ℕ → List Call → List ℕ → List ℕ → List ℕ → Row
   -- crossings, in whatever order; those that remain; 1 for inside, 0 for outside
@@ -74,6 +78,21 @@ table =
     ∷ builds (0x314d5952 ∷ 1 ∷ 3 ∷ 9 ∷ 0x4494c000 ∷ 0x3f000000 ∷ 0x40400000 ∷ 0 ∷ 0 ∷ 0 ∷ 0 ∷ 0x40400000 ∷ 0x40400000 ∷ 0x40400000 ∷ 0 ∷ 0 ∷ 0 ∷ 0 ∷ 0x7f7fffff ∷ 0 ∷ 0x00010000 ∷ 0 ∷ 0x7f7fffff ∷ 0 ∷ 0x00020000 ∷ 0 ∷ 0 ∷ 0 ∷ 1 ∷ 0 ∷ 0xff7fffff ∷ 0 ∷ 0x00010001 ∷ 0 ∷ 0xff7fffff ∷ 0 ∷ 0x00020001 ∷ 0 ∷ 0 ∷ 0 ∷ 2 ∷ 0 ∷ 0 ∷ 0 ∷ 0x00010002 ∷ 0 ∷ 0 ∷ 0 ∷ 0x00020002 ∷ 0 ∷ 0 ∷ 0 ∷ []) 27 22 0 0 []
     -- a quotient too large, the sums small
     ∷ builds (0x314d5952 ∷ 1 ∷ 2 ∷ 2 ∷ 0x4494c000 ∷ 0x3f000000 ∷ 0x40400000 ∷ 0 ∷ 0 ∷ 0 ∷ 0 ∷ 0x77f684df ∷ 0x77f684df ∷ 0x77f684df ∷ 0 ∷ 0 ∷ 0 ∷ 0 ∷ 0x3f800000 ∷ 0 ∷ 1 ∷ 0 ∷ 0xbf7fffff ∷ 0 ∷ []) 8 22 0 0 []
+    -- K3, not starred: the most costly tree of a grid
+    ∷ costs 0 3 0 0
+    ∷ costs 1 0 1 148
+    ∷ costs 2 0 1 176
+    ∷ costs 3 0 9 892
+    ∷ costs 4 0 15 1520
+    ∷ costs 257 3 0 0
+    -- its point file; without room for every cell 9, but 3 first
+    ∷ writes 1 80 80
+    (0x314d5952 ∷ 1 ∷ 1 ∷ 1 ∷ 0 ∷ 0 ∷ 0 ∷ 0 ∷ 0 ∷ 0 ∷ 0 ∷ 0x3f800000 ∷ 0x3f800000 ∷ 0x3f800000 ∷ 0 ∷ 0 ∷ 0 ∷ 0 ∷ 0x3f800000 ∷ 0x3f800000 ∷ [])
+    ∷ writes 1 79 9 []
+    ∷ writes 2 195 192
+    (0x314d5952 ∷ 1 ∷ 2 ∷ 8 ∷ 0 ∷ 0 ∷ 0 ∷ 0 ∷ 0 ∷ 0 ∷ 0 ∷ 0x3f800000 ∷ 0x3f800000 ∷ 0x3f800000 ∷ 0 ∷ 0 ∷ 0 ∷ 0 ∷ 0x3f800000 ∷ 0x3f800000 ∷ 1 ∷ 0 ∷ 0x3f800000 ∷ 0x3f800000 ∷ 0x00010000 ∷ 0 ∷ 0x3f800000 ∷ 0x3f800000 ∷ 0x00010001 ∷ 0 ∷ 0x3f800000 ∷ 0x3f800000 ∷ 0 ∷ 1 ∷ 0x3f800000 ∷ 0x3f800000 ∷ 1 ∷ 1 ∷ 0x3f800000 ∷ 0x3f800000 ∷ 0x00010000 ∷ 1 ∷ 0x3f800000 ∷ 0x3f800000 ∷ 0x00010001 ∷ 1 ∷ 0x3f800000 ∷ 0x3f800000 ∷ [])
+    ∷ writes 0 80 3 []
+    ∷ writes 257 0 3 []
     -- g 2 with (1, 0, 0), 16 bytes to spare, 7 journal words: put (0, 0, 0), remove (1, 0, 0); then two undos
     ∷ edits (headed 1 ++ (right ++ spare)) (0 ∷ 8 ∷ 8 ∷ 8 ∷ 8 ∷ 8 ∷ 8 ∷ []) (put 0 0 0 0x40400000 0xc0800000 ∷ remove 1 0 0 ∷ [])
     (96 ∷ 80 ∷ [])

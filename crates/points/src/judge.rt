@@ -7,7 +7,7 @@ ghost use lib.Dec.{eqb};
 ghost use Rattle.rym1.specs.Bytes.{word32};
 ghost use Rattle.rym1.specs.Causes.{number};
 ghost use Rattle.rym1.specs.File.{grid, count, pointsAt, size, finite, allFinite, headerFloats, below};
-ghost use Rattle.rym1.specs.File.{placeCause, massCause, pointCause, pointsCause, headerCause, fileCause, working, workCause};
+ghost use Rattle.rym1.specs.File.{gridCause, placeCause, massCause, pointCause, pointsCause, headerCause, fileCause, working, workCause};
 use crate::records::cell_number;
 use crate::records::count;
 use crate::records::grid;
@@ -31,6 +31,19 @@ pub fn is_finite(pattern: u32) -> bool
     ensures { λ r. ⌜ r ≡ finite pattern ⌝ }
 {
     float::pattern::is_finite32(pattern)
+}
+
+// 3, of a header or of a call's own number.
+pub fn grid_cause(g: u32) -> Cause
+    ensures { λ r. ⌜ number r ≡ gridCause g ⌝ }
+{
+    if g == 0 {
+        return Cause::GridOutside;
+    }
+    if 256 < g {
+        return Cause::GridOutside;
+    }
+    Cause::Nothing
 }
 
 // 6, of a record or of a call's own numbers.
@@ -149,12 +162,9 @@ fn header_cause(file: &[u8]) -> Cause
     if binary::u32_at(file, 4) != 1 {
         return Cause::MarkWrong;
     }
-    let g = grid(file);
-    if g == 0 {
-        return Cause::GridOutside;
-    }
-    if 256 < g {
-        return Cause::GridOutside;
+    let cause = grid_cause(grid(file));
+    if is_refused(cause) {
+        return cause;
     }
     let n = count(file) as usize;
     if file.len() < 64 + 16 * n {

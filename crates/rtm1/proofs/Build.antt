@@ -55,7 +55,7 @@ module _ (f : List ℕ) (words : ℕ) (out : List ℕ) (ok : fileCause f ≡ 0) 
   rest = late (treeLarge f (fileTree f)) (ltb (length out) (treeLength (fileTree f)))
 
   -- what is left of build once 1 to 7 are passed
-  build-passed : build f words out ≡ refuse (first (first (when (ltb words (cube (grid f))) 8) (repeatCause f)) rest) (output 0 0 out) done
+  pub build-passed : build f words out ≡ refuse (first (first (when (ltb words (cube (grid f))) 8) (repeatCause f)) rest) (output 0 0 out) done
   unfolding build buildCause sourceCause first
   build-passed = λ i. refuse (first (first (ok i) (first (when (ltb words (cube (grid f))) 8) (repeatCause f))) rest) (output 0 0 out) done
 

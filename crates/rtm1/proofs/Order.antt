@@ -1,20 +1,22 @@
 -- Laws of the order words, the number of nodes, and which trees have points. Assumes nothing.
-use Prim.Native.Nat.{ℕ, suc, _+_, _<_, _≤_}
+use Prim.Native.Nat.{ℕ, suc, _+_, _*_, _<_, _≤_}
 use mathlib.Core.Path.{_≡_, refl, sym, ap₂, _∙_}
 use mathlib.Core.Bool.{Bool, true, false, not, _||_}
 use mathlib.Core.List.{List, [], _∷_, List·Permᴰ, List·Permᴰ·nil, List·Permᴰ·trans, Permᴰ·refl}
+use native.Mathlib.Nat.{le-trans}
 use native.Mathlib.Omega.{arith}
-use borrow.Author.Tests.{eqb-true}
+use borrow.Author.Tests.{eqb-true, leb-true, leb-false}
 use lib.Dec.{leb, eqb}
 use lib.ListN.{length, length-map, length-append}
 use Rattle.rym1.specs.Cells.{Slot}
+use Rattle.rym1.proofs.Cells.{cube-few}
 use Rattle.rtm1.specs.declared.Cells.{Cells}
 use Rattle.rtm1.specs.declared.Kind.the-variants.{Empty}
 use Rattle.rtm1.specs.Boxes.{Within, cells, single, widest, lower, upper}
 use Rattle.rtm1.specs.Visit.{Placed, visit, nothing, total}
 use Rattle.rtm1.specs.Tree.{Tree, empty, leaf, split, kindBy, kindOf, kindAt, sumsOf, indices, grow, fuel, treeOf, nodeCount, order, occupied}
 use Rattle.rtm1.proofs.Lists.{perm-length, perm-append}
-use Rattle.rtm1.proofs.Boxes.{Halves, cells-pos, upper-small, lower-small, split-many, split-wide}
+use Rattle.rtm1.proofs.Boxes.{Halves, cells-pos, cells-few, upper-small, lower-small, split-many, split-wide}
 use Rattle.rtm1.proofs.Visit.{visit-halves, indices-halves, visit-few, total-count}
 use Rattle.rtm1.proofs.Growth.{by-boxes}
 
@@ -71,9 +73,9 @@ module _ (look : ℕ → Slot) (g : ℕ) where
 
   -- ---- nodes
 
-  -- at most one node to a cell, and fewer where there are two cells or more
+  -- at most one node to a cell; where there are three cells or more, fewer than two to three cells
   Few : ℕ → ℕ → Type 0
-  Few n v = (n ≤ v) × (2 ≤ v → n < v)
+  Few n v = (n ≤ v) × (3 ≤ v → 3 * (n + 1) ≤ 2 * v)
 
   few : (b : Cells) → Within g b → Few (nodeCount (treeOf look g b)) (cells b)
   unfolding nodeCount Few
@@ -89,13 +91,25 @@ module _ (look : ℕ → Slot) (g : ℕ) where
 
       both : (l u v p n m : ℕ) → l + u ≡ v → 8 < p → p ≤ v → u ≤ l + l → l ≤ u → Few n l → Few m u → Few (1 + n + m) v
       both l u v p n m e h₁ h₂ h₃ h₄ hn hm =
-          let nl : n < l = hn .1 (omega arith) in
-          let mu : m < u = hm .1 (omega arith) in
+          let lower = hn .1 (omega arith) in
+          let upper = hm .1 (omega arith) in
           (omega arith, λ k. omega arith)
 
   pub nodes-at-most : (b : Cells) → Within g b → nodeCount (treeOf look g b) ≤ cells b
   unfolding Few
   nodes-at-most b w = few b w .0
+
+  pub nodes-thirds : (b : Cells) → Within g b → 3 ≤ cells b → 3 * (nodeCount (treeOf look g b) + 1) ≤ 2 * cells b
+  unfolding Few
+  nodes-thirds b w = few b w .1
+
+  -- so in the largest grid every place in preorder is below 2^24
+  pub nodes-exact : g ≤ 256 → (b : Cells) → Within g b → nodeCount (treeOf look g b) ≤ 11184809
+  nodes-exact h b w = go (leb 3 (cells b)) refl (le-trans (cells-few g b w) (cube-few g h)) (nodes-at-most b w)
+    where
+      go : (t : Bool) → leb 3 (cells b) ≡ t → cells b ≤ 16777216 → nodeCount (treeOf look g b) ≤ cells b → nodeCount (treeOf look g b) ≤ 11184809
+      go true e all most = omega (arith, nodes-thirds b w (leb-true 3 (cells b) e))
+      go false e all most = omega (arith, leb-false 3 (cells b) e)
 
   -- ---- counts: a leaf's is that of its words, a split's that of both halves' words
 

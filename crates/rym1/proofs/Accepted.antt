@@ -11,7 +11,7 @@ use borrow.Author.Tests.{ltb-true, ltb-false, leb-false, eqb-true, eqb-false, no
 use Rattle.rym1.specs.declared.Point.{Point}
 use Rattle.rym1.specs.Bytes.{word32}
 use Rattle.rym1.specs.Causes.{when, first}
-use Rattle.rym1.specs.File.{grid, count, size, pointAt, pointsAt, points, finite, allFinite, headerFloats, below, placeCause, massCause, pointCause, pointsCause, headerCause, fileCause}
+use Rattle.rym1.specs.File.{grid, count, size, pointAt, pointsAt, points, finite, allFinite, headerFloats, below, gridCause, placeCause, massCause, pointCause, pointsCause, headerCause, fileCause}
 use Rattle.rym1.proofs.Causes.{or-false-l, or-false-r, and-true-l, when-zero, first-zero-l, first-zero-r}
 
 -- ---- a record
@@ -76,6 +76,19 @@ pub inside-at : (g : ℕ) (f : List ℕ) (at n i : ℕ) (p : Point) → pointsCa
     → Inside g (p .x) (p .y) (p .z)
 inside-at g f at n i p e a h ep = rw (ep, a) (sound g (pointAt f (64 + 16 * i)) (each-sound g f 64 n i e h) .place)
 
+-- ---- a grid
+
+-- 1 to 256: 3 is not against it
+pub grid-right : (g : ℕ) → gridCause g ≡ 0 → (0 < g) × (g ≤ 256)
+unfolding gridCause
+grid-right g e =
+    let on = when-zero (eqb g 0 || ltb 256 g) 2 e in
+    (omega (arith, eqb-false g 0 (or-false-l (eqb g 0) (ltb 256 g) on)), ltb-false 256 g (or-false-r (eqb g 0) (ltb 256 g) on))
+
+pub grid-none : (g : ℕ) → 0 < g → g ≤ 256 → gridCause g ≡ 0
+unfolding gridCause when
+grid-none g pos few = rw (ne-eqb g 0 (λ e. omega arith), le-ltb 256 g few)
+
 -- ---- a file
 
 -- the header, and that the records are there
@@ -94,16 +107,15 @@ unfolding headerCause
 accepted-header f e =
     let short = ltb (length f) 64 in
     let wrong = not (eqb (word32 f 0) 0x314d5952) || not (eqb (word32 f 4) 1) in
-    let off = eqb (grid f) 0 || ltb 256 (grid f) in
     let missing = ltb (length f) (size (count f)) in
     let box = not (below f 0) || (not (below f 1) || not (below f 2)) in
     let floats = not (allFinite (headerFloats f)) || box in
     let k2 = first-zero-r (when short 1) _ e in
     let k3 = first-zero-r (when wrong 2) _ k2 in
-    let k4 = first-zero-r (when off 3) _ k3 in
+    let k4 = first-zero-r (gridCause (grid f)) _ k3 in
     let k5 = first-zero-r (when missing 4) _ k4 in
     let right = when-zero wrong 1 (first-zero-l (when wrong 2) _ k2) in
-    let on = when-zero off 2 (first-zero-l (when off 3) _ k3) in
+    let on = grid-right (grid f) (first-zero-l (gridCause (grid f)) _ k3) in
     let all = when-zero floats 4 k5 in
     let boxed = or-false-r (not (allFinite (headerFloats f))) box all in
     let boxed2 = or-false-r (not (below f 0)) (not (below f 1) || not (below f 2)) boxed in
@@ -111,8 +123,8 @@ accepted-header f e =
       long = ltb-false (length f) 64 (when-zero short 0 (first-zero-l (when short 1) _ e));
       mark = eqb-true (word32 f 0) 0x314d5952 (not-false _ (or-false-l (not (eqb (word32 f 0) 0x314d5952)) (not (eqb (word32 f 4) 1)) right));
       version = eqb-true (word32 f 4) 1 (not-false _ (or-false-r (not (eqb (word32 f 0) 0x314d5952)) (not (eqb (word32 f 4) 1)) right));
-      grid-pos = omega (arith, eqb-false (grid f) 0 (or-false-l (eqb (grid f) 0) (ltb 256 (grid f)) on));
-      grid-few = ltb-false 256 (grid f) (or-false-r (eqb (grid f) 0) (ltb 256 (grid f)) on);
+      grid-pos = on .0;
+      grid-few = on .1;
       room = ltb-false (length f) (size (count f)) (when-zero missing 3 (first-zero-l (when missing 4) _ k4));
       floats = not-false (allFinite (headerFloats f)) (or-false-l (not (allFinite (headerFloats f))) box all);
       box = (
@@ -139,8 +151,7 @@ by-none f a sound-points =
       le-ltb (length f) 64 (a .long),
       eq-eqb (word32 f 0) 0x314d5952 (a .mark),
       eq-eqb (word32 f 4) 1 (a .version),
-      ne-eqb (grid f) 0 (λ e. omega (arith, e, a .grid-pos)),
-      le-ltb 256 (grid f) (a .grid-few),
+      grid-none (grid f) (a .grid-pos) (a .grid-few),
       le-ltb (length f) (size (count f)) (a .room),
       a .floats,
       a .box .0,

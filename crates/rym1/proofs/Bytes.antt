@@ -317,6 +317,16 @@ unfolding wordsBytes
 words-append [] b = refl
 words-append (w ∷ a) b = rw (words-append a b) (sym (append-assoc (le 4 w) (wordsBytes a) (wordsBytes b)))
 
+-- a word that was written is read
+pub word-at : (ws q : List ℕ) (i : ℕ) → i < length ws → getD ws i 0 < 4294967296 → word 4 (wordsBytes ws ++ q) (4 * i) ≡ getD ws i 0
+unfolding wordsBytes
+word-at [] q i h low = absurd (omega arith)
+word-at (w ∷ ws) q zero h low = rw (append-assoc (le 4 w) (wordsBytes ws) q) (word-le-fits 4 w [] (wordsBytes ws ++ q) 0 refl low)
+word-at (w ∷ ws) q (suc i) h low =
+    let there : 4 * suc i ≡ length (le 4 w) + 4 * i = omega (arith, length-le 4 w) in
+    rw (append-assoc (le 4 w) (wordsBytes ws) q, there)
+    (word-append-right 4 (le 4 w) (wordsBytes ws ++ q) (4 * i) ∙ word-at ws q i (omega arith) low)
+
 -- one word
 one-word : (w : ℕ) → wordsBytes (w ∷ []) ≡ le 4 w
 unfolding wordsBytes le

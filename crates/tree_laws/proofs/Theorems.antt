@@ -29,7 +29,7 @@ use Rattle.rtm1.proofs.Visit.{visit-halves}
 use Rattle.rtm1.proofs.Growth as growth
 use Rattle.rtm1.proofs.Growth.{byKind, fuel-enough, tree-same}
 use Rattle.rtm1.proofs.Order as words
-use Rattle.rtm1.proofs.Order.{order-permutes, nodes-at-most, counted}
+use Rattle.rtm1.proofs.Order.{order-permutes, nodes-at-most, nodes-exact, counted}
 use Rattle.rtm1.proofs.Bytes.{length-tree}
 use Rattle.rtm1.proofs.Measured.{fit, nodes-fine}
 use Rattle.rtm1.proofs.Read as reading
@@ -244,9 +244,12 @@ module _ (h rest : List ℕ) (look : ℕ → Slot) (g : ℕ) (pos : 0 < g) (few 
   whole-grid : Within g (whole g)
   whole-grid = root-within g pos
 
-  -- so that places are whole numbers that binary32 has
   pub node-count-few : nodeCount (tree look g) ≤ cube g
   node-count-few = le-trans (node-count look g (whole g) whole-grid) (cells-few g (whole g) whole-grid)
+
+  -- and fewer than 2^24, so that places are whole numbers that binary32 has
+  pub node-count-exact : nodeCount (tree look g) ≤ 11184809
+  node-count-exact = nodes-exact look g few (whole g) whole-grid
 
   words-few : length (order (tree look g)) ≤ cube g
   words-few = le-trans (order-few look g (whole g) whole-grid) (cells-few g (whole g) whole-grid)
@@ -257,13 +260,13 @@ module _ (h rest : List ℕ) (look : ℕ → Slot) (g : ℕ) (pos : 0 < g) (few 
       low (cell g x y z) i (cell-low g x y z (omega arith)) holds
 
   pub nodes-read : nodesIn treeFile ≡ nodeCount (tree look g)
-  nodes-read = reading.nodes-read h (tree look g) rest (counted look g (whole g) whole-grid) (le-trans node-count-few (cube-few g few)) (le-trans words-few (cube-few g few)) words-low
+  nodes-read = reading.nodes-read h (tree look g) rest (counted look g (whole g) whole-grid) (le-trans node-count-exact (omega arith)) (le-trans words-few (cube-few g few)) words-low
 
   pub order-read : orderWords treeFile ≡ order (tree look g)
-  order-read = reading.order-read h (tree look g) rest (counted look g (whole g) whole-grid) (le-trans node-count-few (cube-few g few)) (le-trans words-few (cube-few g few)) words-low
+  order-read = reading.order-read h (tree look g) rest (counted look g (whole g) whole-grid) (le-trans node-count-exact (omega arith)) (le-trans words-few (cube-few g few)) words-low
 
   tree-read : Reads treeFile (tree look g) 0 0
-  tree-read = reading.tree-read h (tree look g) rest (counted look g (whole g) whole-grid) (le-trans node-count-few (cube-few g few)) (le-trans words-few (cube-few g few)) words-low
+  tree-read = reading.tree-read h (tree look g) rest (counted look g (whole g) whole-grid) (le-trans node-count-exact (omega arith)) (le-trans words-few (cube-few g few)) words-low
 
   -- each node is read at its preorder place: a split's links lead to its children's places, and are none exactly to a child without points; a leaf's
   -- start and count name its order words
@@ -278,7 +281,7 @@ module _ (h rest : List ℕ) (look : ℕ → Slot) (g : ℕ) (pos : 0 < g) (few 
   pub node-floats : (way : List Turn) (m : Tree) → Leads (tree look g) way m → Measures treeFile (frameOf h) m (place (tree look g) way)
   node-floats way m l =
       let n : 0 + place (tree look g) way ≡ place (tree look g) way = omega arith in
-      let all = reading.floats-read h (tree look g) rest (counted look g (whole g) whole-grid) (le-trans node-count-few (cube-few g few)) (le-trans words-few (cube-few g few)) words-low (fit look g (whole g) whole-grid) in
+      let all = reading.floats-read h (tree look g) rest (counted look g (whole g) whole-grid) (le-trans node-count-exact (omega arith)) (le-trans words-few (cube-few g few)) words-low (fit look g (whole g) whole-grid) in
       subst (λ (k : ℕ). Measures treeFile (frameOf h) m k) n (measures-node treeFile (frameOf h) (tree look g) way m 0 all l)
 
   -- where none is too large, all of them are finite

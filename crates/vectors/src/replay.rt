@@ -3,9 +3,11 @@
 ghost use Prim.Native.Nat.{_≤_};
 use libc::STDOUT_FILENO;
 use stored::built;
+use stored::costed;
 use stored::edited;
 use stored::narrowed;
 use stored::opened;
+use stored::written;
 use stored_meshes::crossed;
 use stored_meshes::filled;
 use stored_meshes::sided;
@@ -14,6 +16,8 @@ pub enum Kind {
     Narrow,
     Open,
     Build,
+    Cost,
+    Costliest,
     Edit,
     Ray,
     Inside,
@@ -28,6 +32,8 @@ fn case_size(kind: Kind) -> usize
         Kind::Narrow => narrowed::SIZE,
         Kind::Open => opened::SIZE,
         Kind::Build => built::SIZE,
+        Kind::Cost => costed::SIZE,
+        Kind::Costliest => written::SIZE,
         Kind::Edit => edited::SIZE,
         Kind::Ray => crossed::SIZE,
         Kind::Inside => sided::SIZE,
@@ -41,6 +47,8 @@ fn is_same_case(kind: Kind, case: &[u8]) -> bool {
         Kind::Narrow => narrowed::is_same(case),
         Kind::Open => opened::is_same(case),
         Kind::Build => built::is_same(case),
+        Kind::Cost => costed::is_same(case),
+        Kind::Costliest => written::is_same(case),
         Kind::Edit => edited::is_same(case),
         Kind::Ray => crossed::is_same(case),
         Kind::Inside => sided::is_same(case),

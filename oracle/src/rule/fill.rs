@@ -1,6 +1,6 @@
 //! 01's rule for the inside test and for filling, written from its sentences: every triangle is asked about every point.
 
-use super::{cell_of, float, length, narrowed, FLOATS, GREATEST_GRID, MARK, VERSION};
+use super::{cell_of, float, is_grid, length, narrowed, FLOATS, MARK, VERSION};
 
 /// Bytes of a triangle (a, b, c) and of a kernel (centre, sigma, w).
 pub(crate) const TRIANGLE: usize = 72;
@@ -353,7 +353,7 @@ pub(crate) fn is_finite(file: &[u8]) -> bool {
 
 /// The filled file, or the first cause.
 fn filled(body: &Body, floats: u64, room: u64) -> Result<Vec<u8>, u64> {
-    if body.grid == 0 || body.grid > GREATEST_GRID {
+    if !is_grid(body.grid) {
         return Err(3);
     }
     let g = u64::from(body.grid);

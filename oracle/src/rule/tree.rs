@@ -27,7 +27,7 @@ struct Point {
 
 /// A box of cells, ends excluded.
 #[derive(Clone, Copy)]
-struct Cells {
+pub(super) struct Cells {
     low: [f64; 3],
     high: [f64; 3],
 }
@@ -75,7 +75,20 @@ fn points(file: &[u8]) -> Vec<Point> {
     records.into_iter().map(point).collect()
 }
 
+/// The length of a tree file.
+pub(super) fn length(nodes: usize, points: usize) -> usize {
+    HEADER + NODE * nodes + 4 * points
+}
+
 impl Cells {
+    /// The box of these widths from cell 0 on.
+    pub(super) fn of(widths: [f64; 3]) -> Self {
+        Self {
+            low: [0.0; 3],
+            high: widths,
+        }
+    }
+
     fn has(&self, point: &Point) -> bool {
         (0..3).all(|axis| (self.low[axis]..self.high[axis]).contains(&point.place[axis]))
     }
@@ -84,9 +97,18 @@ impl Cells {
         self.high[axis] - self.low[axis]
     }
 
+    pub(super) fn widths(&self) -> [f64; 3] {
+        axes(|axis| self.width(axis))
+    }
+
+    /// Whether the box's node is a leaf with so many points.
+    pub(super) fn is_leaf(&self, points: usize) -> bool {
+        points <= LEAF || self.widths() == [1.0; 3]
+    }
+
     /// The widest axis, ties to x, then y.
     fn widest(&self) -> usize {
-        let [x, y, z] = axes(|axis| self.width(axis));
+        let [x, y, z] = self.widths();
         match (x >= y && x >= z, y >= z) {
             (true, _) => 0,
             (_, true) => 1,
@@ -95,7 +117,7 @@ impl Cells {
     }
 
     /// Both parts of a split of the widest axis at low + width ÷ 2 rounded down.
-    fn split(&self) -> [Self; 2] {
+    pub(super) fn split(&self) -> [Self; 2] {
         let axis = self.widest();
         let middle = self.low[axis] + (self.width(axis) / 2.0).floor();
         let (mut left, mut right) = (*self, *self);
@@ -160,11 +182,10 @@ impl Tree {
             leaf_start: 0.0,
             leaf_count: 0.0,
         });
-        let single = (0..3).all(|axis| cells.width(axis) == 1.0);
         if points.is_empty() {
             return;
         }
-        if points.len() <= LEAF || single {
+        if cells.is_leaf(points.len()) {
             self.nodes[place].leaf_start = self.order.len() as f64;
             self.nodes[place].leaf_count = points.len() as f64;
             self.order.extend(points.iter().map(|point| point.index));
@@ -274,16 +295,13 @@ impl Tree {
     fn of(file: &[u8]) -> Self {
         let points = points(file);
         let mut tree = Self::default();
-        let root = Cells {
-            low: [0.0; 3],
-            high: [grid(file) as f64; 3],
-        };
+        let root = Cells::of([grid(file) as f64; 3]);
         tree.build(root, &points.iter().collect::<Vec<_>>());
         tree
     }
 
     fn length(&self) -> usize {
-        HEADER + NODE * self.nodes.len() + 4 * self.order.len()
+        length(self.nodes.len(), self.order.len())
     }
 
     /// Each node's twenty floats, nodes in preorder, not narrowed yet.

@@ -120,6 +120,15 @@ impl Args {
         Path::new(&self.words[place])
     }
 
+    /// A word that is a number.
+    pub(crate) fn word<T: std::str::FromStr>(
+        &self,
+        name: &str,
+        place: usize,
+    ) -> Result<T, Failure> {
+        parsed(name, text(name, &self.words[place])?)
+    }
+
     /// The words from a place on.
     pub(crate) fn texts(&self, from: usize) -> Result<Vec<&str>, Failure> {
         let words = self.words[from..].iter();

@@ -15,6 +15,7 @@ mascon: models of small bodies as point masses in a grid
   mascon apply MODEL EDITS          make a list of edits
   mascon log MODEL                  list the edits that can be undone
   mascon build IN -o OUT            build the tree of a point file
+  mascon costliest GRID             what a tree takes at most, before there is a file
   mascon info FILE                  counts, masses, box, depth of a point file or tree
   mascon check FILE                 every fault of a point file or tree, with its place
   mascon draw FILE -o OUT           draw a model (.svg or .png)
@@ -127,10 +128,23 @@ that, or that nearly cancel, so that their centre lies so far away. The node, it
 and nothing is written. With --force over another point file or a journal.
 ";
 
+const COSTLIEST: &str = "\
+mascon costliest GRID [-o OUT] [--force]
+
+Tells what the most costly model of a grid takes, so that room can be reserved before there is a file: the greatest node
+count of its trees and the length of the tree that has it, both reached with a point in every cell, and the length of that
+point file. Every other point file of the grid that is accepted has at most as many nodes and bytes in its tree.
+
+  GRID            cells on each axis, 1 to 256
+  -o OUT          write the point file (RYM1): every cell in working form, all masses 1, the box from 0 to 1 m,
+                  density, cell volume, scale and raw sums 0
+  --force         OUT may be a model that has a journal, which goes, or a journal
+";
+
 const INFO: &str = "\
 mascon info FILE
 
-Counts, masses, box and depth of a point file (RYM1) or tree (RTM1).
+Counts, masses, box and depth of a point file (RYM1) or tree (RTM1); of a point file also what its tree takes at most.
 ";
 
 const CHECK: &str = "\
@@ -173,6 +187,7 @@ pub(crate) fn of(command: &str) -> Option<&'static str> {
         "get" => GET,
         "list" => LIST,
         "build" => BUILD,
+        "costliest" => COSTLIEST,
         "info" => INFO,
         "check" => CHECK,
         "draw" => DRAW,

@@ -1,6 +1,7 @@
 //! The command line.
 
 mod args;
+mod cost;
 mod edit;
 mod example;
 mod fill;
@@ -304,6 +305,7 @@ fn takes(command: &str) -> Option<Takes> {
         "apply" => (&["MODEL", "EDITS"], &[], &["--keep-going"]),
         "log" => (&["MODEL"], &[], &[]),
         "build" => (&["IN"], &["-o"], &["--force"]),
+        "costliest" => (&["GRID"], &["-o"], &["--force"]),
         "info" => (&["FILE"], &[], &[]),
         "check" => (&["FILE"], &["--most"], &[]),
         "get" => (&["MODEL", "X", "Y", "Z"], AT, &[]),
@@ -342,6 +344,7 @@ fn command(name: &str, args: &Args) -> Result<(), Failure> {
         "apply" => edit::apply(args),
         "log" => edit::log(args),
         "build" => edit::build(args),
+        "costliest" => cost::costliest(args),
         "info" => show::info(args),
         "check" => show::check(args),
         "get" => list::get(args),

@@ -1,6 +1,7 @@
 //! The commands info, check and draw.
 
 use super::args::Args;
+use super::cost::tree_at_most;
 use super::list::{outside_box, outside_grid};
 use super::{
     and_more, heaviest, output_apart, print, read_model, reading, say, shown, tell_apart, write,
@@ -10,7 +11,7 @@ use mascon::check::{
     check_floats, check_points, check_tree, check_working_form, trailing_bytes, Fault, Report,
 };
 use mascon::draw::{difference, Mass, Picture, Slice};
-use mascon::{Header, Model, ModelFileError, Reading, Refusal, Tree};
+use mascon::{Cost, Header, Model, ModelFileError, Reading, Refusal, Tree};
 use std::fmt::Write as _;
 use std::path::Path;
 
@@ -143,6 +144,7 @@ fn points_info(text: &mut String, model: &Model, bytes: &[u8]) {
             low[0], high[0], low[1], high[1], low[2], high[2]
         );
     }
+    text.push_str(&Cost::of(grid).map_or(String::new(), tree_at_most));
 }
 
 /// Bytes after the last record are no fault, and no matter of working form.

@@ -5,8 +5,8 @@ use super::{length, raw};
 use crate::check::{check_floats, check_points, check_tree};
 use crate::text::{parse_kernels, parse_obj, Edit};
 use crate::{
-    build_mascon, draw, is_inside, narrow, parse_mascon_bytes, shapes, Kernel, Model, Refusal,
-    Tree, Triangle,
+    build_mascon, draw, is_inside, narrow, parse_mascon_bytes, shapes, Cost, Kernel, Model,
+    Refusal, Tree, Triangle, MAX_GRID,
 };
 use std::hint::black_box;
 use std::panic::catch_unwind;
@@ -223,6 +223,19 @@ fn what_is_too_large_is_so_in_any_mode() {
 }
 
 #[test]
+fn the_costliest_is_the_same_in_any_mode() {
+    let (cost, model) = (Cost::of(MAX_GRID).unwrap(), Model::costliest(7).unwrap());
+    let tree = model.tree().unwrap();
+    for mode in MODES.into_iter().chain(TRAPPING) {
+        assert_eq!(in_mode(mode, || Cost::of(MAX_GRID)), Ok(cost));
+        assert!(in_mode(mode, || Cost::of(0)).is_err());
+        let again = in_mode(mode, || Model::costliest(7)).unwrap();
+        assert_eq!(again.as_bytes(), model.as_bytes());
+        assert_eq!(in_mode(mode, || again.tree()).unwrap(), tree);
+    }
+}
+
+#[test]
 fn texts_are_read_the_same_in_any_mode() {
     let lists = "0.1 0.2 -0.3 1e-320 1e23\n";
     let kernels = parse_kernels(lists).unwrap();
@@ -402,9 +415,11 @@ fn null_with_length_0() {
             raw::mascon_remove(null_mut(), 0, null_mut(), 0, 0, 0, 0),
             raw::mascon_undo(null_mut(), 0, null_mut(), 0),
             raw::mascon_build(null(), 0, null_mut(), 0, null_mut(), 0).answer,
+            raw::mascon_write_costliest(0, null_mut(), 0),
+            raw::mascon_write_costliest(1, null_mut(), 0),
         ]
     };
-    assert_eq!(answers, [17, 17, 1, 1, 1, 1, 1, 1]);
+    assert_eq!(answers, [17, 17, 1, 1, 1, 1, 1, 1, 3, 9]);
 }
 
 /// The same of some buffers, with others that are accepted.
@@ -490,6 +505,58 @@ fn a_float_too_large_beside_short_buffers() {
         assert_eq!(answer, (wanted, 0, 0), "{words} words, {length} bytes");
         assert_eq!(out, vec![0xa5; length]);
     }
+}
+
+/// 3 alone, with nodes and bytes 0.
+#[test]
+fn the_cost_of_no_grid() {
+    for grid in [0, MAX_GRID + 1, 65_536 + 8, 1 << 31, u32::MAX] {
+        let cost = unsafe { raw::mascon_costliest(grid) };
+        assert_eq!((cost.answer, cost.nodes, cost.bytes), (3, 0, 0), "{grid}");
+    }
+    let cost = unsafe { raw::mascon_costliest(3) };
+    assert_eq!((cost.answer, cost.nodes, cost.bytes), (0, 9, 892));
+}
+
+/// 3, then 9 without room for every cell; a refusal writes nothing, and nothing is written past the file.
+#[test]
+fn the_costliest_beside_short_outputs() {
+    let length = 64 + 16 * 27;
+    let file = Model::costliest(3).unwrap();
+    assert_eq!(file.as_bytes().len(), length);
+    for (grid, room, wanted) in [
+        (0, 0, 3),
+        (0, 1000, 3),
+        (MAX_GRID + 1, 0, 3),
+        (u32::MAX, 1000, 3),
+        (3, 0, 9),
+        (3, 63, 9),
+        (3, 64, 9),
+        (3, length - 1, 9),
+        (MAX_GRID, 1000, 9),
+        (3, length, length),
+        (3, length + 1, length),
+        (3, 1000, length),
+    ] {
+        let mut out = vec![0xa5_u8; room];
+        let answer = unsafe { raw::mascon_write_costliest(grid, out.as_mut_ptr(), room) };
+        assert_eq!(answer, wanted as u64, "{grid}, {room} bytes");
+        let written = if wanted < 64 { 0 } else { wanted };
+        assert_eq!(out[..written], file.as_bytes()[..written]);
+        assert_eq!(out[written..], vec![0xa5; room - written]);
+    }
+}
+
+/// Built with the output that was answered for its grid, and with a byte less.
+#[test]
+fn the_costliest_takes_its_whole_output() {
+    let (cost, model) = (Cost::of(6).unwrap(), Model::costliest(6).unwrap());
+    let (file, mut scratch) = (model.as_bytes(), [0; 216]);
+    let mut out = vec![0; cost.bytes];
+    let short = super::build(file, &mut scratch, &mut out[1..]);
+    assert_eq!(short, Err(Refusal::OutputTooShort));
+    let built = super::build(file, &mut scratch, &mut out);
+    assert_eq!(built, Ok((cost.bytes, cost.nodes, 216)));
 }
 
 /// Masses too large for a float: 20, and 18 where there are too many points as well; both zero the output.

@@ -7,7 +7,8 @@ use borrow.Author.Tests.{lt-ltb, le-ltb, eq-eqb, ne-eqb}
 use borrow.Author.Needs.{needs}
 use Rattle.rym1.specs.Causes.{number, when, first}
 use Rattle.rym1.specs.File.{size, below, headerCause}
-use Rattle.points.proofs.Refused.{not-three}
+use Rattle.rym1.proofs.Causes.{first-found}
+use Rattle.points.proofs.Refused.{refused, none-found, not-three}
 use Rattle.points.proofs.judge.header_cause.Statement.{statement}
 use Rattle.points.proofs.judge.header_cause.Tie as tie
 
@@ -45,30 +46,20 @@ returns-3 c =
 grid-requires : tie.Need-grid-requires
 grid-requires c κs = search needs
 
-returns-4 : tie.Need-returns-4
-unfolding number headerCause size when first
-returns-4 c =
-    let f = c .before .before .before .before .before .before .before .before .args .file .now in
-    let mark = c .before .before .before .before .before .u32-at in
-    let version = c .before .before .before .u32-at2 in
-    let g = c .before .grid in
-    rw (
-      le-ltb (length f) 64 (omega arith),
-      ← mark .ensures,
-      eq-eqb (mark .result) 0x314d5952 (omega arith),
-      ← version .ensures,
-      eq-eqb (version .result) 1 (omega arith),
-      ← g .ensures,
-      eq-eqb (g .result) 0 (omega arith),
-    )
+grid-cause-requires : tie.Need-grid-cause-requires
+grid-cause-requires c κs = search needs
 
-returns-5 : tie.Need-returns-5
-unfolding number headerCause size when first
-returns-5 c =
-    let f = c .before .before .before .before .before .before .before .before .before .args .file .now in
-    let mark = c .before .before .before .before .before .before .u32-at in
-    let version = c .before .before .before .before .u32-at2 in
-    let g = c .before .before .grid in
+is-refused-requires : tie.Need-is-refused-requires
+is-refused-requires c κs = search needs
+
+returns-4 : tie.Need-returns-4
+unfolding headerCause when first
+returns-4 c =
+    let f = c .before .before .before .before .before .before .before .before .before .before .args .file .now in
+    let mark = c .before .before .before .before .before .before .before .u32-at in
+    let version = c .before .before .before .before .before .u32-at2 in
+    let g = c .before .before .before .grid in
+    let off = c .before .before .grid-cause in
     rw (
       le-ltb (length f) 64 (omega arith),
       ← mark .ensures,
@@ -76,9 +67,9 @@ returns-5 c =
       ← version .ensures,
       eq-eqb (version .result) 1 (omega arith),
       ← g .ensures,
-      ne-eqb (g .result) 0 (λ z. omega arith),
-      lt-ltb 256 (g .result) (omega arith),
+      ← off .ensures,
     )
+    (sym (first-found (number (off .result)) _ (refused (number (off .result)) (c .before .is-refused .ensures) (c .if4 .taken))))
 
 count-requires : tie.Need-count-requires
 count-requires c κs = search needs
@@ -86,19 +77,21 @@ count-requires c κs = search needs
 cast-n : tie.Need-cast-n
 cast-n c = search needs
 
-mul-if6 : tie.Need-mul-if6
-mul-if6 c = search needs
+mul-if5 : tie.Need-mul-if5
+mul-if5 c = search needs
 
-add-if6 : tie.Need-add-if6
-add-if6 c = search needs
+add-if5 : tie.Need-add-if5
+add-if5 c = search needs
 
-returns-6 : tie.Need-returns-6
+returns-5 : tie.Need-returns-5
 unfolding number headerCause size when first
-returns-6 c =
-    let f = c .before .before .before .before .before .before .before .before .before .before .before .args .file .now in
-    let mark = c .before .before .before .before .before .before .before .before .u32-at in
-    let version = c .before .before .before .before .before .before .u32-at2 in
-    let g = c .before .before .before .before .grid in
+returns-5 c =
+    let f = c .before .before .before .before .before .before .before .before .before .before .before .before .args .file .now in
+    let mark = c .before .before .before .before .before .before .before .before .before .u32-at in
+    let version = c .before .before .before .before .before .before .before .u32-at2 in
+    let g = c .before .before .before .before .before .grid in
+    let off = c .before .before .before .before .grid-cause in
+    let ok = none-found _ (off .result) (off .ensures) (c .before .before .before .is-refused .ensures) (c .before .before .if4 .left) in
     let n = c .before .count in
     rw (
       le-ltb (length f) 64 (omega arith),
@@ -107,8 +100,7 @@ returns-6 c =
       ← version .ensures,
       eq-eqb (version .result) 1 (omega arith),
       ← g .ensures,
-      ne-eqb (g .result) 0 (λ z. omega arith),
-      le-ltb 256 (g .result) (omega arith),
+      ok,
       ← n .ensures,
       lt-ltb (length f) (64 + 16 * n .result) (omega arith),
     )
@@ -119,13 +111,15 @@ has-finite-floats-requires c κs = search needs
 has-box-requires : tie.Need-has-box-requires
 has-box-requires c κs = search needs
 
-returns-7 : tie.Need-returns-7
+returns-6 : tie.Need-returns-6
 unfolding number headerCause size when first
-returns-7 c =
-    let f = c .before .before .before .before .before .before .before .before .before .before .before .before .before .before .before .args .file .now in
-    let mark = c .before .before .before .before .before .before .before .before .before .before .before .before .u32-at in
-    let version = c .before .before .before .before .before .before .before .before .before .before .u32-at2 in
-    let g = c .before .before .before .before .before .before .before .before .grid in
+returns-6 c =
+    let f = c .before .before .before .before .before .before .before .before .before .before .before .before .before .before .before .before .args .file .now in
+    let mark = c .before .before .before .before .before .before .before .before .before .before .before .before .before .u32-at in
+    let version = c .before .before .before .before .before .before .before .before .before .before .before .u32-at2 in
+    let g = c .before .before .before .before .before .before .before .before .before .grid in
+    let off = c .before .before .before .before .before .before .before .before .grid-cause in
+    let ok = none-found _ (off .result) (off .ensures) (c .before .before .before .before .before .before .before .is-refused .ensures) (c .before .before .before .before .before .before .if4 .left) in
     let n = c .before .before .before .before .before .count in
     let floats = c .before .before .before .has-finite-floats in
     let box = c .before .has-box in
@@ -136,48 +130,50 @@ returns-7 c =
       ← version .ensures,
       eq-eqb (version .result) 1 (omega arith),
       ← g .ensures,
-      ne-eqb (g .result) 0 (λ z. omega arith),
-      le-ltb 256 (g .result) (omega arith),
+      ok,
       ← n .ensures,
       le-ltb (length f) (64 + 16 * n .result) (omega arith),
-      sym (floats .ensures) ∙ c .before .before .if7 .taken,
+      sym (floats .ensures) ∙ c .before .before .if6 .taken,
       not-three (below f 0) (below f 1) (below f 2),
-      sym (box .ensures) ∙ c .if8 .taken,
+      sym (box .ensures) ∙ c .if7 .taken,
+    )
+
+returns-7 : tie.Need-returns-7
+unfolding number headerCause size when first
+returns-7 c =
+    let f = c .before .before .before .before .before .before .before .before .before .before .before .before .before .before .before .before .args .file .now in
+    let mark = c .before .before .before .before .before .before .before .before .before .before .before .before .before .u32-at in
+    let version = c .before .before .before .before .before .before .before .before .before .before .before .u32-at2 in
+    let g = c .before .before .before .before .before .before .before .before .before .grid in
+    let off = c .before .before .before .before .before .before .before .before .grid-cause in
+    let ok = none-found _ (off .result) (off .ensures) (c .before .before .before .before .before .before .before .is-refused .ensures) (c .before .before .before .before .before .before .if4 .left) in
+    let n = c .before .before .before .before .before .count in
+    let floats = c .before .before .before .has-finite-floats in
+    let box = c .before .has-box in
+    rw (
+      le-ltb (length f) 64 (omega arith),
+      ← mark .ensures,
+      eq-eqb (mark .result) 0x314d5952 (omega arith),
+      ← version .ensures,
+      eq-eqb (version .result) 1 (omega arith),
+      ← g .ensures,
+      ok,
+      ← n .ensures,
+      le-ltb (length f) (64 + 16 * n .result) (omega arith),
+      sym (floats .ensures) ∙ c .before .before .if6 .taken,
+      not-three (below f 0) (below f 1) (below f 2),
+      sym (box .ensures) ∙ c .if7 .left,
     )
 
 returns-8 : tie.Need-returns-8
 unfolding number headerCause size when first
 returns-8 c =
-    let f = c .before .before .before .before .before .before .before .before .before .before .before .before .before .before .before .args .file .now in
-    let mark = c .before .before .before .before .before .before .before .before .before .before .before .before .u32-at in
-    let version = c .before .before .before .before .before .before .before .before .before .before .u32-at2 in
-    let g = c .before .before .before .before .before .before .before .before .grid in
-    let n = c .before .before .before .before .before .count in
-    let floats = c .before .before .before .has-finite-floats in
-    let box = c .before .has-box in
-    rw (
-      le-ltb (length f) 64 (omega arith),
-      ← mark .ensures,
-      eq-eqb (mark .result) 0x314d5952 (omega arith),
-      ← version .ensures,
-      eq-eqb (version .result) 1 (omega arith),
-      ← g .ensures,
-      ne-eqb (g .result) 0 (λ z. omega arith),
-      le-ltb 256 (g .result) (omega arith),
-      ← n .ensures,
-      le-ltb (length f) (64 + 16 * n .result) (omega arith),
-      sym (floats .ensures) ∙ c .before .before .if7 .taken,
-      not-three (below f 0) (below f 1) (below f 2),
-      sym (box .ensures) ∙ c .if8 .left,
-    )
-
-returns-9 : tie.Need-returns-9
-unfolding number headerCause size when first
-returns-9 c =
-    let f = c .before .before .before .before .before .before .before .before .before .before .before .before .before .args .file .now in
-    let mark = c .before .before .before .before .before .before .before .before .before .before .u32-at in
-    let version = c .before .before .before .before .before .before .before .before .u32-at2 in
-    let g = c .before .before .before .before .before .before .grid in
+    let f = c .before .before .before .before .before .before .before .before .before .before .before .before .before .before .args .file .now in
+    let mark = c .before .before .before .before .before .before .before .before .before .before .before .u32-at in
+    let version = c .before .before .before .before .before .before .before .before .before .u32-at2 in
+    let g = c .before .before .before .before .before .before .before .grid in
+    let off = c .before .before .before .before .before .before .grid-cause in
+    let ok = none-found _ (off .result) (off .ensures) (c .before .before .before .before .before .is-refused .ensures) (c .before .before .before .before .if4 .left) in
     let n = c .before .before .before .count in
     let floats = c .before .has-finite-floats in
     rw (
@@ -187,11 +183,10 @@ returns-9 c =
       ← version .ensures,
       eq-eqb (version .result) 1 (omega arith),
       ← g .ensures,
-      ne-eqb (g .result) 0 (λ z. omega arith),
-      le-ltb 256 (g .result) (omega arith),
+      ok,
       ← n .ensures,
       le-ltb (length f) (64 + 16 * n .result) (omega arith),
-      sym (floats .ensures) ∙ c .if7 .left,
+      sym (floats .ensures) ∙ c .if6 .left,
     )
 
 pub header-cause-spec : {M : Type 1} → statement M
@@ -204,15 +199,16 @@ header-cause-spec =
     u32-at-requires-2
     returns-3
     grid-requires
+    grid-cause-requires
+    is-refused-requires
     returns-4
-    returns-5
     count-requires
     cast-n
-    mul-if6
-    add-if6
-    returns-6
+    mul-if5
+    add-if5
+    returns-5
     has-finite-floats-requires
     has-box-requires
+    returns-6
     returns-7
-    returns-8
-    returns-9)
+    returns-8)
