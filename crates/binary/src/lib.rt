@@ -5,7 +5,7 @@ ghost use Prim.Native.Nat.{_+_, _≤_, _<_};
 ghost use lib.ListN.{length, replicate};
 ghost use lib.Ieee.{binary64, ofBits, nanBits};
 ghost use Rattle.binary.specs.Words.{Narrowing};
-ghost use Rattle.rym1.specs.Bytes.{word16, word32, word64, le16, le32, le64, wordsBytes, splice};
+ghost use Rattle.rym1.specs.Bytes.{word16, word32, word64, le32, le64, wordsBytes, splice};
 use float::Narrowed;
 use float::pattern::f32_to_bits;
 
@@ -59,17 +59,6 @@ pub fn number_at(s: &[u8], at: usize) -> f64
     ensures { λ r. ⌜ r ≡ ofBits binary64 (word64 (now (s .entry)) at) ⌝ }
 {
     f64::from_bits(u64_at(s, at))
-}
-
-// The low two bytes of the value.
-pub fn out_u16(s: &mut [u8], at: usize, value: u32)
-    requires { ⌜ at + 2 ≤ length (now s) ⌝ }
-    ensures { λ _. ⌜ now (s .exit) ≡ splice (now (s .entry)) at (le16 value) ⌝ }
-{
-    let low = value % 256;
-    let high = value / 256 % 256;
-    s[at] = low as u8;
-    s[at + 1] = high as u8;
 }
 
 pub fn out_u32(s: &mut [u8], at: usize, value: u32)

@@ -2,7 +2,8 @@
 ghost use mathlib.Core.Path.{_≡_};
 ghost use Prim.Native.Nat.{_+_, _≤_, _<_};
 ghost use lib.ListN.{length};
-ghost use Rattle.rym1.specs.Bytes.{splice};
+ghost use mathlib.Core.List.{_++_};
+ghost use Rattle.rym1.specs.Bytes.{le16, le64, splice};
 ghost use Rattle.rym1.specs.File.{grid, count, pointAt, pointBytes, cell, cube};
 ghost use Rattle.rym1.specs.Cells.{cellPoint};
 ghost use Rattle.rym1.proofs.Accepted.{Inside};
@@ -69,15 +70,23 @@ pub fn cell_point(g: u32, c: u32, cauchy: u32, elliptic: u32) -> Point
     }
 }
 
+// The first eight bytes of a record, as a number: x lowest, two bytes each.
+fn place_number(p: Point) -> u64
+    ensures { λ r. ⌜ le64 r ≡ le16 (p .x) ++ (le16 (p .y) ++ (le16 (p .z) ++ le16 (p .pad))) ⌝ }
+{
+    let x = (p.x % 65536) as u64;
+    let y = (p.y % 65536) as u64;
+    let z = (p.z % 65536) as u64;
+    let pad = (p.pad % 65536) as u64;
+    ((pad * 65536 + z) * 65536 + y) * 65536 + x
+}
+
 // A record at a byte.
 pub fn out_point(file: &mut [u8], at: usize, p: Point)
     requires { ⌜ at + 16 ≤ length (now file) ⌝ }
     ensures { λ _. ⌜ now (file .exit) ≡ splice (now (file .entry)) at (pointBytes p) ⌝ }
 {
-    binary::out_u16(file, at, p.x);
-    binary::out_u16(file, at + 2, p.y);
-    binary::out_u16(file, at + 4, p.z);
-    binary::out_u16(file, at + 6, p.pad);
+    binary::out_u64(file, at, place_number(p));
     binary::out_u32(file, at + 8, p.cauchy);
     binary::out_u32(file, at + 12, p.elliptic);
 }

@@ -48,6 +48,12 @@ le-add (suc j) k n =
     let e : n / 256 ^ suc j ≡ n / 256 / 256 ^ j = rw (pow-suc 256 j, mul-comm (256 ^ j) 256) (sym (div-div-eq-div-mul n 256 (256 ^ j))) in
     rw (suc-add j k, e, le-add j k (n / 256))
 
+-- of a number made of two
+pub le-digits : (j k q r : ℕ) → r < 256 ^ j → le (j + k) (q * 256 ^ j + r) ≡ le j r ++ le k q
+le-digits j k q r low =
+    let front : le j (q * 256 ^ j + r) ≡ le j r = sym (le-mod j (q * 256 ^ j + r)) ∙ ap (le j) (digits-mod q low) in
+    le-add j k (q * 256 ^ j + r) ∙ rw (front, digits-div q low)
+
 -- ---- a number in a list of bytes
 
 -- the bytes that are read decide
@@ -262,9 +268,6 @@ unfolding splice
 stores s at new h = sets-eq new s at h ∙ append-assoc (take at s) new (drop (at + length new) s)
 
 -- as the code has them
-pub store2 : (s : List ℕ) (at a b : ℕ) → at + 2 ≤ length s → set (set s at a) (at + 1) b ≡ splice s at (a ∷ b ∷ [])
-store2 s at a b h = simp towards-suc (stores s at (a ∷ b ∷ []) h)
-
 pub store3 : (s : List ℕ) (at a b c : ℕ) → at + 3 ≤ length s → set (set (set s at a) (at + 1) b) (at + 2) c ≡ splice s at (a ∷ b ∷ c ∷ [])
 store3 s at a b c h = simp towards-suc (stores s at (a ∷ b ∷ c ∷ []) h)
 

@@ -1,5 +1,5 @@
 -- Laws of records as bytes: what is read of records that were written, and what reading and writing leaves. Assumes nothing.
-use Prim.Native.Nat.{ℕ, zero, suc, _+_, _*_, _≤_, _<_}
+use Prim.Native.Nat.{ℕ, zero, suc, _+_, _*_, _%_, _≤_, _<_}
 use mathlib.Core.Path.{_≡_, refl, sym, ap, _∙_}
 use mathlib.Core.List.{List, [], _∷_, _++_, append-assoc}
 use native.Mathlib.Nat.{add-zero, add-assoc}
@@ -8,7 +8,7 @@ use lib.ListN.{length, take, drop, length-append}
 use Rattle.rym1.specs.declared.Point.{Point}
 use Rattle.rym1.specs.Bytes.{word, le, splice}
 use Rattle.rym1.specs.File.{pointAt, pointsAt, pointBytes, pointsBytes}
-use Rattle.rym1.proofs.Bytes.{AllBytes, le-word, word-append-left, word-append-right, word-le-fits, behind, part-part}
+use Rattle.rym1.proofs.Bytes.{AllBytes, le-mod, le-digits, le-word, word-append-left, word-append-right, word-le-fits, behind, part-part}
 
 -- each number fits its bytes
 pub record Fits (p : Point) : Type 0 where
@@ -120,17 +120,21 @@ points-bytes f at (suc n) all h =
 
 -- ---- a record written
 
-pub point-stores : (s s₁ s₂ s₃ s₄ s₅ s₆ : List ℕ) (at : ℕ) (p : Point) → at + 16 ≤ length s → s₁ ≡ splice s at (le 2 (p .x)) → s₂ ≡ splice s₁ (at + 2) (le 2 (p .y))
-    → s₃ ≡ splice s₂ (at + 4) (le 2 (p .z)) → s₄ ≡ splice s₃ (at + 6) (le 2 (p .pad)) → s₅ ≡ splice s₄ (at + 8) (le 4 (p .cauchy)) → s₆ ≡ splice s₅ (at + 12) (le 4 (p .elliptic))
-    → s₆ ≡ splice s at (pointBytes p)
+-- its first eight bytes, as the number that is written there
+pub place-bytes : (p : Point) → le 8 (((p .pad % 65536 * 65536 + p .z % 65536) * 65536 + p .y % 65536) * 65536 + p .x % 65536) ≡ le 2 (p .x) ++ (le 2 (p .y) ++ (le 2 (p .z) ++ le 2 (p .pad)))
+place-bytes p =
+    let low : (n : ℕ) → n % 65536 < 65536 = λ n. omega arith in
+    let part : (k q n : ℕ) → le (2 + k) (q * 65536 + n % 65536) ≡ le 2 n ++ le k q = λ k q n. le-digits 2 k q (n % 65536) (low n) ∙ ap (λ (l : List ℕ). l ++ le k q) (le-mod 2 n) in
+    part 6 ((p .pad % 65536 * 65536 + p .z % 65536) * 65536 + p .y % 65536) (p .x)
+    ∙ ap (λ (l : List ℕ). le 2 (p .x) ++ l) (part 4 (p .pad % 65536 * 65536 + p .z % 65536) (p .y)
+    ∙ ap (λ (l : List ℕ). le 2 (p .y) ++ l) (part 2 (p .pad % 65536) (p .z)
+    ∙ ap (λ (l : List ℕ). le 2 (p .z) ++ l) (le-mod 2 (p .pad))))
+
+pub point-stores : (s s₁ s₂ s₃ : List ℕ) (at n : ℕ) (p : Point) → at + 16 ≤ length s → le 8 n ≡ le 2 (p .x) ++ (le 2 (p .y) ++ (le 2 (p .z) ++ le 2 (p .pad)))
+    → s₁ ≡ splice s at (le 8 n) → s₂ ≡ splice s₁ (at + 8) (le 4 (p .cauchy)) → s₃ ≡ splice s₂ (at + 12) (le 4 (p .elliptic)) → s₃ ≡ splice s at (pointBytes p)
 unfolding pointBytes le
-point-stores s s₁ s₂ s₃ s₄ s₅ s₆ at p h e₁ e₂ e₃ e₄ e₅ e₆ =
-    let x = le 2 (p .x) in
-    let y = le 2 (p .y) in
-    let z = le 2 (p .z) in
-    let pad = le 2 (p .pad) in
-    let d₂ = behind s at x y (at + 2) (omega arith) refl e₁ e₂ in
-    let d₃ = behind s at (x ++ y) z (at + 4) (omega arith) refl d₂ e₃ in
-    let d₄ = behind s at (x ++ (y ++ z)) pad (at + 6) (omega arith) refl d₃ e₄ in
-    let d₅ = behind s at (x ++ (y ++ (z ++ pad))) (le 4 (p .cauchy)) (at + 8) (omega arith) refl d₄ e₅ in
-    behind s at (x ++ (y ++ (z ++ (pad ++ le 4 (p .cauchy))))) (le 4 (p .elliptic)) (at + 12) (omega arith) refl d₅ e₆
+point-stores s s₁ s₂ s₃ at n p h is e₁ e₂ e₃ =
+    let place = le 2 (p .x) ++ (le 2 (p .y) ++ (le 2 (p .z) ++ le 2 (p .pad))) in
+    let d₁ : s₁ ≡ splice s at place = e₁ ∙ ap (splice s at) is in
+    let d₂ = behind s at place (le 4 (p .cauchy)) (at + 8) (omega arith) refl d₁ e₂ in
+    behind s at (place ++ le 4 (p .cauchy)) (le 4 (p .elliptic)) (at + 12) (omega arith) refl d₂ e₃
