@@ -9,7 +9,6 @@ use lib.ListN.{length}
 use Rattle.rym1.specs.File.{grid}
 use Rattle.rym1.specs.Cells.{Slot, look}
 use Rattle.rym1.proofs.Accepted.{accepted}
-use Rattle.rym1.proofs.Cells.{cube-few}
 use Rattle.rtm1.specs.declared.Cells.{Cells}
 use Rattle.rtm1.specs.declared.Frame.{Frame}
 use Rattle.rtm1.specs.declared.Sums.{Sums}
@@ -19,10 +18,9 @@ use Rattle.rtm1.specs.Visit.{visit}
 use Rattle.rtm1.specs.Tree.{Tree, leaf, split, kindAt, sumsOf, indices, treeOf, nodeCount, order}
 use Rattle.rtm1.specs.Node.{frameOf, nodesFloats, someLarge}
 use Rattle.rtm1.specs.Build.{treeLarge, fileTree}
-use Rattle.rtm1.proofs.Boxes.{whole-within, cells-few}
-use Rattle.rtm1.proofs.Visit.{visit-few}
+use Rattle.rtm1.proofs.Boxes.{whole-within}
 use Rattle.rtm1.proofs.Growth.{tree-leaf, tree-split}
-use Rattle.rtm1.proofs.Order.{order-length, nodes-at-most}
+use Rattle.rtm1.proofs.Order.{order-length, nodes-exact, points-exact}
 use Rattle.sums.specs.Ready.{Ready}
 use Rattle.sums.proofs.Slots.{grid-few}
 use Rattle.mascon_tree.specs.declared.Next.{Next}
@@ -30,10 +28,6 @@ use Rattle.mascon_tree.specs.declared.Judged.{Judged}
 use Rattle.mascon_tree.specs.declared.Judged.the-variants.{Fits, TooLarge}
 use Rattle.mascon_tree.specs.Written.{judgedOf, Space}
 use Rattle.mascon_tree.proofs.Judging.{fits-is, large-is}
-
--- a box of the grid lies in the largest one
-pub within-most : (g : ℕ) (b : Cells) → g ≤ 256 → Within g b → Within 256 b
-within-most g b h w = record { proper = w .proper; to-x = le-trans (w .to-x) h; to-y = le-trans (w .to-y) h; to-z = le-trans (w .to-z) h }
 
 module _ (look : ℕ → Slot) (g : ℕ) (b : Cells) where
   -- the trees by kind, x being the box's sums
@@ -46,10 +40,10 @@ module _ (look : ℕ → Slot) (g : ℕ) (b : Cells) where
     split-is lo hi el eh x ex e = rw (el, eh, ex) (tree-split look g b e w)
 
     nodes-fit : g ≤ 256 → nodeCount (treeOf look g b) ≤ 16777216
-    nodes-fit h = le-trans (nodes-at-most look g b w) (le-trans (cells-few g b w) (cube-few g h))
+    nodes-fit h = le-trans (nodes-exact look g h b w) (omega arith)
 
     points-fit : g ≤ 256 → length (order (treeOf look g b)) ≤ 16777216
-    points-fit h = le-trans (le-of-eq (order-length look g b w)) (le-trans (visit-few look g b) (le-trans (cells-few g b w) (cube-few g h)))
+    points-fit h = le-trans (le-of-eq (order-length look g b w)) (points-exact look g h b w)
 
 -- ---- the root
 

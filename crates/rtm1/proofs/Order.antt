@@ -71,6 +71,9 @@ module _ (look : ℕ → Slot) (g : ℕ) where
   pub order-few : (b : Cells) → Within g b → length (order (treeOf look g b)) ≤ cells b
   order-few b w = rw (order-length b w) (visit-few look g b)
 
+  pub points-exact : g ≤ 256 → (b : Cells) → Within g b → length (visit look g b) ≤ 16777216
+  points-exact h b w = le-trans (visit-few look g b) (le-trans (cells-few g b w) (cube-few g h))
+
   -- ---- nodes
 
   -- at most one node to a cell; where there are three cells or more, fewer than two to three cells

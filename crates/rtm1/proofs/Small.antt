@@ -12,7 +12,6 @@ use Rattle.float.specs.Narrow.{anyLarge}
 use Rattle.float.specs.Number.{zero64, half, tiny, abs, num}
 use Rattle.rym1.specs.File.{cell}
 use Rattle.rym1.specs.Cells.{Slot, vacant, held}
-use Rattle.rym1.proofs.Cells.{cube-few}
 use Rattle.rtm1.specs.declared.Cells.{Cells}
 use Rattle.rtm1.specs.declared.Frame.{Frame}
 use Rattle.rtm1.specs.declared.Sums.{Sums}
@@ -22,9 +21,9 @@ use Rattle.rtm1.specs.Visit.{Placed, here, run, pointIn, row, plane, vis
 use Rattle.rtm1.specs.Tree.{sumsOf, treeOf}
 use Rattle.rtm1.specs.Node.{over, fallback, centre, constantCentre, centreOn, centreOf, halfOn, halfOf, metricOn, metricCom, nodeFloats, nodesFloats, someLarge}
 use Rattle.rtm1.specs.Costliest.{unit}
-use Rattle.rtm1.proofs.Boxes.{cells-few}
-use Rattle.rtm1.proofs.Visit.{visit-few}
+use Rattle.rtm1.proofs.Boxes.{within-most}
 use Rattle.rtm1.proofs.Growth.{by-boxes}
+use Rattle.rtm1.proofs.Order.{points-exact}
 use Rattle.rtm1.proofs.Large.{large-empty, large-leaf, large-split}
 use Rattle.float.proofs.Whole.{whole-plus, whole-times}
 use Rattle.float.proofs.Low.{Low, value-low, add-low, mul-low, div-low, num-value, num-low, max-low, Fine, low-fine}
@@ -317,27 +316,21 @@ module _ (look : ℕ → Slot) (g : ℕ) (few : g ≤ 256) (each : AllOne look g
       let hz : z < g = omega arith in
       here-ones x y z (look (cell g x y z)) (omega arith) (omega arith) (omega arith) (each x y z hx hy hz))))
 
-  few-points : (b : Cells) → Within g b → length (visit look g b) ≤ 16777216
-  few-points b w = le-trans (visit-few look g b) (le-trans (cells-few g b w) (cube-few g few))
-
   -- a box's sums: masses add up to its points, moments to at most 255 times as much
   pub sums-summed : (b : Cells) → Within g b → Summed (length (visit look g b)) (sumsOf look g b)
   sums-summed b w =
       subst (λ (n : ℕ). Summed n (sumsOf look g b)) (zero-add (length (visit look g b)))
-      (total-summed 0 nothing (visit look g b) (visit-ones b w) (omega (arith, few-points b w)) nothing-summed)
-
-  inside : (b : Cells) → Within g b → Inside b
-  inside b w = record { proper = w .proper; to-x = le-trans (w .to-x) few; to-y = le-trans (w .to-y) few; to-z = le-trans (w .to-z) few }
+      (total-summed 0 nothing (visit look g b) (visit-ones b w) (omega (arith, points-exact look g few b w)) nothing-summed)
 
   module _ (r : Frame) (f : Framed r) where
     box-small : (b : Cells) → Within g b → anyLarge (nodeFloats r b (sumsOf look g b)) ≡ false
-    box-small b w = none-large _ (node-fine r b (length (visit look g b)) (sumsOf look g b) f (inside b w) (few-points b w) (sums-summed b w))
+    box-small b w = none-large _ (node-fine r b (length (visit look g b)) (sumsOf look g b) f (within-most g b few w) (points-exact look g few b w) (sums-summed b w))
 
     -- no float of the tree is too large
     pub small-tree : (b : Cells) → Within g b → someLarge (nodesFloats r (treeOf look g b)) ≡ false
     small-tree =
         by-boxes look g (λ b t. someLarge (nodesFloats r t) ≡ false)
-        (λ b w e. large-empty r b ∙ none-large _ (node-fine r b 0 nothing f (inside b w) (omega arith) nothing-summed))
+        (λ b w e. large-empty r b ∙ none-large _ (node-fine r b 0 nothing f (within-most g b few w) (omega arith) nothing-summed))
         (λ b w e. large-leaf r b _ _ ∙ box-small b w)
         (λ b w e two below above. large-split r b _ _ _ ∙ rw (box-small b w, below, above))
 

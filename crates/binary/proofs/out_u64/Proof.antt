@@ -39,8 +39,7 @@ returns : tie.Need-returns
 returns c =
     let second = c .before .before in
     let first = second .before .before .before .before in
-    let start = first .before .before .before in
-    two _ _ _ _ _ (start .pre) (first .out-u32 .ensures) (second .out-u322 .ensures)
+    two _ _ _ _ _ (omega arith) (first .out-u32 .ensures) (second .out-u322 .ensures)
 
 pub out-u64-spec : {M : Type 1} → statement M
 out-u64-spec =

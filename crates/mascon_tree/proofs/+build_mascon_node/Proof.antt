@@ -18,7 +18,8 @@ use Rattle.rtm1.proofs.Growth.{tree-empty}
 use Rattle.rtm1.proofs.Order.{empty-sums}
 use Rattle.sums.proofs.Slots.{grid-few}
 use Rattle.mascon_tree.specs.Written.{Space}
-use Rattle.mascon_tree.proofs.Counted.{within-most, leaf-is, split-is}
+use Rattle.rtm1.proofs.Boxes.{within-most}
+use Rattle.mascon_tree.proofs.Counted.{leaf-is, split-is}
 use Rattle.mascon_tree.proofs.Written.{node-low, node-room, room-low, room-high, written-as, written-empty, split-low, split-high, written-split}
 use Rattle.mascon_tree.proofs.build_mascon_node.Reads as build-mascon-node
 use Rattle.mascon_tree.proofs.build_mascon_node.Kinds as kinds
