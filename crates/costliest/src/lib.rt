@@ -33,7 +33,7 @@ const UNIT: u32 = 0x3f80_0000;
 // Whether two boxes have the same widths.
 fn alike(b: Cells, c: Cells) -> bool
     requires { ⌜ Proper b × Proper c ⌝ }
-    ensures { λ r. ⌜ (r ≡ true → Alike b c) ⌝ }
+    ensures { λ r. ⌜ (r ≡ true → Alike b c) × (Alike b c → r ≡ true) ⌝ }
 {
     if b.x1 - b.x0 != c.x1 - c.x0 {
         return false;

@@ -107,7 +107,7 @@ module _ (t : ℕ) where
   twice c =
       let h = c .before .before .before in
       let n = c .before .before .count-full .ensures in
-      let same = same-nodes _ _ (low-within h) (high-within h) (c .before .alike .ensures (c .if1 .taken)) in
+      let same = same-nodes _ _ (low-within h) (high-within h) (c .before .alike .ensures .0 (c .if1 .taken)) in
       ap₂ (λ (l r : ℕ). 1 + l + r) n (n ∙ same) ∙ sum h
 
   add-result : lts.Need-add-result (calls t) (given t) count-full.Post
