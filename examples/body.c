@@ -84,7 +84,7 @@ int main(void) {
     size_t filled_length = length("fill", mascon_fill(GRID, (const uint8_t *)mesh, sizeof mesh, (const uint8_t *)kernel, sizeof kernel,
                                                       (const uint8_t *)kernel, sizeof kernel, 2.0e11, 1900.0, floats, 8, filled, most));
 
-    /* Opened, with room for as many new records as edits, and for their entries in the journal. */
+    /* Opened, with a word of scratch per cell, room for as many new records as edits, and for their entries in the journal. */
     uint32_t *scratch = room(CELLS * sizeof *scratch);
     size_t file_length = filled_length + 16 * EDITS;
     uint8_t *file = room(file_length);
@@ -107,8 +107,9 @@ int main(void) {
         return 1;
     }
 
-    /* Built: 64 bytes of header, 80 a node, 4 an occupied cell. */
-    MasconBuilt built = mascon_build(file, now, scratch, CELLS, tree, tree_length);
+    /* Built: 64 bytes of header, 80 a node, 4 an occupied cell. What fill, open and the edits leave is in working form, and for that build needs
+       no more scratch than two words per 32 cells, rounded up. */
+    MasconBuilt built = mascon_build(file, now, scratch, 2 * ((CELLS + 31) / 32), tree, tree_length);
     size_t bytes = length("build", built.answer);
     printf("tree: %llu nodes, %llu ordered points, %zu bytes\n", (unsigned long long)built.nodes, (unsigned long long)built.order, bytes);
 

@@ -1,6 +1,7 @@
 #!/usr/bin/env python3
 """Turns the stored answers (crates/vectors/data/*.bin) into inputs of the targets, in the layout of src/decode.h: seeds.py DATA OUT.
-OUT/edges has inputs written here: what is just too large for a float, and what just is not; the grids of the costliest files."""
+OUT/edges has inputs written here: what is just too large for a float, and what just is not; the grids of the costliest files; scratch at both
+sizes that build may need."""
 import hashlib
 import pathlib
 import struct
@@ -117,9 +118,9 @@ def row(masses, start=0):
     return [((start + x, 0, 0), pair) for x, pair in enumerate(pairs)]
 
 
-def point_file(records, g, low=0.0, high=1.0):
+def point_file(records, g, low=0.0, high=1.0, pad=0):
     file = struct.pack("<4I", 0x314D5952, 1, g, len(records)) + struct.pack("<12f", 1, 1, 1, 0, low, low, low, high, high, high, 0, 0)
-    return file + b"".join(struct.pack("<4H2f", *cell, 0, *masses) for cell, masses in records)
+    return file + b"".join(struct.pack("<4H2f", *cell, pad, *masses) for cell, masses in records)
 
 
 def build_edge(records, g=4, room=0, scratch=0, **box):
@@ -150,6 +151,40 @@ for file in (TWO, TWICE):
     edge("fold", b"\x02" + bytes(12) + raw(point_file(file, 4)))
 
 
+def points(g, *cells):
+    """Records in these cells, each with masses of its own."""
+    return [((cell % g, cell // g % g, cell // g // g), (1.0 + i, 2.0 + i)) for i, cell in enumerate(cells)]
+
+
+def scratch_edge(g, cells, sizes, past=b"", first=0, **how):
+    """With each of these sizes of scratch, the tree's own length and such bytes past the file."""
+    for place, size in enumerate(sizes):
+        edge("build", bytes([first | place & 1]) + exact(size) + bytes(7) + raw(point_file(points(g, *cells), g, **how) + past))
+
+
+SEAMS, LARGER = (31, 32, 63, 64), 0xF0
+scratch_edge(1, [0], (1, 2))
+scratch_edge(1, [0], (0, 1), pad=1)
+scratch_edge(1, [0, 0], (0, 1, 2))
+scratch_edge(2, [], (1, 2))
+scratch_edge(2, [7], (1, 2, 7, 8))
+scratch_edge(4, [0, 63], (3, 4, 5, 63, 64))
+scratch_edge(4, [0, 63], (4, 63, 64), pad=256)
+for cells in ([63, 0], [16, 1], [0, 63, 63], [0, 0, 63]):  # not in working form, the second with x slowest
+    scratch_edge(4, cells, (3, 4, 63, 64))
+for past in (point_file(points(4, 0), 4)[64:], b"\xff" * 40):
+    scratch_edge(4, [5, 40], (3, 4), past)
+scratch_edge(5, SEAMS, (7, 8, 124, 125))
+for cells in (range(31, 65), range(0, 125, 2), range(60, 125)):
+    scratch_edge(5, cells, (8, 125))
+scratch_edge(10, [0, 999], (63, 64))
+for g, size in ((33, 2248), (40, 4000), (64, 16384)):
+    scratch_edge(g, [*SEAMS, g**3 - 1], (size - 1, size), first=LARGER)
+for size in (4, 64):  # open and fold need a word for each cell
+    edge("open", b"\x02" + exact(size) + bytes(13) + raw(point_file(points(4, 0, 63), 4)))
+    edge("fold", b"\x02" + exact(size) + bytes(7) + raw(point_file(points(4, 0, 63), 4)))
+
+
 def edit(first, cell, *masses):
     """A call: the first byte, a cell, the masses of a put."""
     return bytes([first]) + struct.pack("<3I", *cell) + b"".join(b"\x80" + struct.pack("<f", mass) for mass in masses)
@@ -176,7 +211,7 @@ def write_edge(first, g, room=0):
     edge("write_costliest", bytes([first]) + whole(g) + bytes([room]))
 
 
-AT_END, BUILT_TOO, LARGER = 1, 2, 0xF0
+AT_END, BUILT_TOO = 1, 2
 for g in range(1, 17):
     write_edge(BUILT_TOO | g & AT_END, g)
 for g in (0, 1, 8, 17, 256, 257):

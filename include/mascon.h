@@ -16,9 +16,9 @@
 
 /* The version of these declarations, the Rust crate's. While the first number is 0, the second changes where a call is new, is declared otherwise
    or answers otherwise. */
-#define MASCON_VERSION "0.4.0"
+#define MASCON_VERSION "0.5.0"
 #define MASCON_VERSION_MAJOR 0
-#define MASCON_VERSION_MINOR 4
+#define MASCON_VERSION_MINOR 5
 #define MASCON_VERSION_PATCH 0
 
 #ifdef __cplusplus
@@ -138,7 +138,10 @@ typedef struct {
 /* Builds the tree of a point file, in working form or not, into out: 64 bytes of header, 80 a node, 4 an occupied cell.
    Answers the length written, 64 + 80 * nodes + 4 * order, or a number below 64, the cause of a refusal:
    1 under 64 bytes, 2 word 0 or version, 3 grid, 4 records missing, 5 a header float, 6 a coordinate, 7 a mass,
-   8 scratch under grid^3 words, 21 two records name one cell, 22 a float of the tree is too large, 9 out too short, in this order.
+   8 scratch too short, 21 two records name one cell, 22 a float of the tree is too large, 9 out too short, in this order.
+   scratch: of a file in working form, records strictly ascending by cell number and each pad 0, 2 * ((grid^3 + 31) / 32) words (2 at
+   grid 1, 1,048,576 at 256); of any other file grid^3. What mascon_open, mascon_fold, mascon_fill, mascon_write_costliest and the edits
+   leave is in working form. The tree is the same from either size and any greater one.
    The bytes that mascon_costliest answers for the grid are always enough.
    22 is about the fifteen floats of every node, box centre, half, both sums of masses and the three centres of mass: one of them is too
    large as in mascon_narrow, be out long enough or not. So every float that is written is finite.

@@ -6,6 +6,8 @@
 
 #define MOST_FILE 16384u
 #define MOST_SCRATCH 32768u // words: g 32
+#define MOST_CELLS 262144u  // of a file in working form that is built: g 64
+#define MOST_AGAIN 1728u    // cells of one that is built again: g 12
 #define MOST_OUT (1u << 18)
 #define MOST_JOURNAL 512u // words
 #define MOST_LIST 8192u
@@ -16,7 +18,7 @@ uint64_t calls_made[CALLS], calls_accepted[CALLS], calls_large[CALLS];
 
 static Lent file, scratch, out, journal, triangles, kernels[2], floats;
 static uint8_t want[MOST_TREE], want_journal[4 * MOST_JOURNAL], input_file[MOST_FILE], opened[MOST_OUT];
-static uint32_t lookup[MOST_SCRATCH], order[MOST_SCRATCH];
+static uint32_t lookup[MOST_CELLS], order[MOST_CELLS];
 static uint64_t keys[MOST_OUT / 16];
 static Mesh mesh;
 
@@ -27,7 +29,7 @@ static void ready(const char *call_name) {
     made = true;
     make_junk();
     make_lent(&file, "file", MOST_OUT);
-    make_lent(&scratch, "scratch", 4 * MOST_SCRATCH);
+    make_lent(&scratch, "scratch", 4 * MOST_CELLS);
     make_lent(&out, "out", MOST_TREE);
     make_lent(&journal, "journal", 4 * MOST_JOURNAL);
     make_lent(&triangles, "triangles", MOST_LIST);
@@ -145,26 +147,58 @@ static void check_finite(uint64_t nodes) {
         if (at != 56 && !finite_bits(get32(out.at + at))) fail("the float at byte %llu is not finite", (unsigned long long)at);
 }
 
-/* Builds the tree of what stands in `file`, with `scratch` and `out` as lent. */
+/* Builds what stands in `file`, with `scratch` and `out` as lent. */
+static MasconBuilt build_call(void) {
+    MasconBuilt built = mascon_build(given(&file, file.length), file.length, given(&scratch, scratch.length), scratch.length / 4,
+                                     given(&out, out.length), out.length);
+    count(CALL_build, built.answer >= 64);
+    calls_large[CALL_build] += built.answer == 22;
+    return built;
+}
+
+/* What build answers and leaves: `right`, with so many nodes and order words, and the tree in `want`. */
+static void check_built(MasconBuilt built, uint64_t right, uint64_t nodes, uint64_t ordered) {
+    check_call(built.answer, right, CAUSE(21) | CAUSE(22), 4);
+    if (built.nodes != nodes || built.order != ordered)
+        fail("%llu nodes and %llu order words, not %llu and %llu", (unsigned long long)built.nodes, (unsigned long long)built.order,
+             (unsigned long long)nodes, (unsigned long long)ordered);
+}
+
+/* Builds what stands in `file` again, with so many words of scratch and what the tree took: answer, counts and bytes are as before. */
+static void builds_again(MasconBuilt first, uint64_t words) {
+    lend_junk(&scratch, 4 * words, scratch.at_end, 8);
+    lend_junk(&out, first.answer < 64 ? out.length : first.answer, out.at_end, 9);
+    check_built(build_call(), first.answer, first.nodes, first.order);
+}
+
+/* Up to g 12 a file in working form that passed 8 is built again with the other size of scratch: a word for each cell where it had the fewest, else
+   the fewest, which at g 1 are more than that. Then its last record has a pad, and it needs the word for each cell. */
+static void builds_alike(MasconBuilt first) {
+    if (first.answer <= 8 || cell_words(file.at) > MOST_AGAIN || !rule_working(file.at)) return;
+    uint64_t fewest = mark_words(file.at), cells = cell_words(file.at), other = scratch.length / 4 == fewest ? cells : fewest;
+    if (other >= fewest) builds_again(first, other);
+    if (get32(file.at + 12) == 0) return;
+    size_t pad = rule_length(file.at) - 10;
+    file.at[pad] = file.was[pad] = 1;
+    builds_again(first, cells);
+    file.at[pad] = file.was[pad] = 0;
+}
+
+/* Builds the tree of what stands in `file`, with `scratch` and `out` as lent, and checks all of it; scratch and output may be others afterwards. */
 static uint64_t build_checked(void) {
     const char *before = under_test;
     under_test = "build";
     uint64_t nodes, ordered;
     uint64_t right = rule_build(file.at, file.length, scratch.length / 4, out.length, want, lookup, order, &nodes, &ordered);
-    MasconBuilt built = mascon_build(given(&file, file.length), file.length, given(&scratch, scratch.length), scratch.length / 4,
-                                     given(&out, out.length), out.length);
-    count(CALL_build, built.answer >= 64);
-    calls_large[CALL_build] += built.answer == 22;
-    check_call(built.answer, right, CAUSE(21) | CAUSE(22), 4);
-    if (built.nodes != nodes || built.order != ordered)
-        fail("%llu nodes and %llu order words, not %llu and %llu", (unsigned long long)built.nodes, (unsigned long long)built.order,
-             (unsigned long long)nodes, (unsigned long long)ordered);
+    MasconBuilt built = build_call();
+    check_built(built, right, nodes, ordered);
     if (built.answer >= 64) {
         if (built.answer != tree_length(built.nodes, built.order)) fail("the length is not that of the counts");
         MasconCost most = costliest_checked(get32(file.at + 8));
         if (built.nodes > most.nodes || built.answer > most.bytes) fail("more nodes or bytes than the costliest file has");
         check_finite(built.nodes);
     }
+    builds_alike(built);
     under_test = before;
     return built.answer;
 }
@@ -172,20 +206,22 @@ static uint64_t build_checked(void) {
 /* What a tree of a file needs, also where it is too large; 144 where there is none. */
 static uint64_t tree_needs(const uint8_t *bytes, size_t length) {
     Tree tree;
-    if (rule_judge(bytes, length) != 0 || cube(get32(bytes + 8)) > MOST_SCRATCH) return 144;
+    if (rule_judge(bytes, length) != 0 || cell_words(bytes) > MOST_CELLS) return 144;
     return rule_tree(&tree, bytes, want, lookup, order) ? tree_length(tree.nodes, tree.ordered) : 144;
 }
 
-/* An accepted file builds, or is refused by 22 where the rule does so: up to g 8 with the length lent that the grid's costliest file needs,
-   above with the tree's own. Answers what build does, 0 where it was not called. */
+/* A file that a call wrote is in working form: it builds with the fewest words of scratch, or is refused by 22 where the rule does so, and by 8
+   with a word less. Up to g 8 it has the length lent that the grid's costliest file needs, above the tree's own. Answers what build does, 0 where
+   it was not called. */
 static uint64_t builds(const uint8_t *bytes, size_t length, bool at_end) {
     uint32_t g = get32(bytes + 8);
-    uint64_t cells = cube(g);
-    if (cells > MOST_SCRATCH) return 0;
-    uint64_t room = g <= 8 ? costliest_checked(g).bytes : tree_needs(bytes, length);
+    if (cube(g) > MOST_SCRATCH) return 0;
+    uint64_t room = g <= 8 ? costliest_checked(g).bytes : tree_needs(bytes, length), fewest = mark_words(bytes);
     lend_bytes(&file, bytes, length, at_end);
-    lend_junk(&scratch, 4 * cells, at_end, 3);
     lend_junk(&out, room, at_end, 4);
+    lend_junk(&scratch, 4 * (fewest - 1), at_end, 3);
+    check_answer(build_checked(), 8);
+    lend_junk(&scratch, 4 * fewest, at_end, 3);
     uint64_t answer = build_checked();
     if (answer < 64 && answer != 22) fail("build refuses what is accepted");
     return answer;
@@ -321,6 +357,14 @@ void case_fill(const uint8_t *bytes, size_t length) {
     if (flags & 8) builds(opened, answer, at_end);
 }
 
+/* Words of scratch for the input file, near those that the call needs or near the other of both sizes; always too few for a file with more
+   cells than so many. */
+static size_t scratch_near(In *in, bool judged, uint64_t (*words)(const uint8_t *), uint64_t most_cells) {
+    if (!judged) return words_near(in, 64, 4, MOST_SCRATCH);
+    uint64_t need = words(input_file), cells = cell_words(input_file);
+    return words_near(in, need, need == cells ? mark_words(input_file) : cells, cells > most_cells && need <= MOST_SCRATCH ? need - 1 : MOST_SCRATCH);
+}
+
 void case_open(const uint8_t *bytes, size_t length) {
     ready("open");
     In in = {bytes, bytes + length};
@@ -331,10 +375,9 @@ void case_open(const uint8_t *bytes, size_t length) {
     In of = {lengths, lengths + sizeof lengths};
     size_t file_length = point_file(&in, input_file, MOST_FILE);
     bool judged = rule_judge(input_file, file_length) == 0;
-    uint64_t cells = judged ? cube(get32(input_file + 8)) : 64;
     uint64_t occupied = judged ? rule_occupied(input_file, keys) : 1;
     lend_bytes(&file, input_file, file_length, at_end);
-    lend_junk(&scratch, 4 * length_near(&of, cells, MOST_SCRATCH), at_end, 1);
+    lend_junk(&scratch, 4 * scratch_near(&of, judged, cell_words, MOST_SCRATCH), at_end, 1);
     lend_junk(&out, length_near(&of, 64 + 16 * occupied, MOST_OUT), at_end, 2);
     lend_junk(&journal, 4 * length_near(&of, 1, MOST_JOURNAL), at_end, flags);
     uint64_t answer = open_checked();
@@ -350,23 +393,24 @@ static uint64_t folded_needs(const uint8_t *bytes, size_t length) {
 }
 
 /* An input file with scratch and output near what is needed, lent; answers the first byte. */
-static uint8_t lend_near(const uint8_t *bytes, size_t length, uint64_t (*needs)(const uint8_t *, size_t)) {
+static uint8_t lend_near(const uint8_t *bytes, size_t length, uint64_t (*words)(const uint8_t *), uint64_t (*needs)(const uint8_t *, size_t)) {
     In in = {bytes, bytes + length};
     uint8_t flags = u8(&in), lengths[12]; // lengths stand before the file, whose own takes the rest
     bool at_end = flags & 1;
     take(&in, lengths, sizeof lengths);
     In of = {lengths, lengths + sizeof lengths};
     size_t file_length = point_file(&in, input_file, MOST_FILE);
-    uint64_t cells = rule_judge(input_file, file_length) == 0 ? cube(get32(input_file + 8)) : 64;
+    bool judged = rule_judge(input_file, file_length) == 0;
+    uint64_t most_cells = flags < 240 ? MOST_SCRATCH : MOST_CELLS; // seldom above g 32, up to 64: those take long
     lend_bytes(&file, input_file, file_length, at_end);
-    lend_junk(&scratch, 4 * length_near(&of, cells, MOST_SCRATCH), at_end, 1);
+    lend_junk(&scratch, 4 * scratch_near(&of, judged, words, most_cells), at_end, 1);
     lend_junk(&out, length_near(&of, needs(input_file, file_length), MOST_OUT), at_end, 2);
     return flags;
 }
 
 void case_fold(const uint8_t *bytes, size_t length) {
     ready("fold");
-    uint8_t flags = lend_near(bytes, length, folded_needs);
+    uint8_t flags = lend_near(bytes, length, cell_words, folded_needs);
     uint64_t answer = fold_checked();
     if (answer < 64) return;
     memcpy(opened, out.at, answer);
@@ -376,7 +420,7 @@ void case_fold(const uint8_t *bytes, size_t length) {
 
 void case_build(const uint8_t *bytes, size_t length) {
     ready("build");
-    lend_near(bytes, length, tree_needs);
+    lend_near(bytes, length, build_words, tree_needs);
     build_checked();
 }
 
@@ -408,6 +452,7 @@ static void builds_costliest(const uint8_t *bytes, size_t length, bool at_end) {
     check_answer(builds(bytes, length, at_end), most.bytes);
     if (get32(out.at + 56) != most.nodes) fail("a tree of %u nodes, not %llu", get32(out.at + 56), (unsigned long long)most.nodes);
     if (g > 8) return;
+    lend_junk(&scratch, 4 * mark_words(bytes), at_end, 3);
     lend_junk(&out, most.bytes - 1, at_end, 4);
     check_answer(build_checked(), 9);
 }
@@ -531,7 +576,8 @@ static uint64_t open_to_edit(In *in, size_t spare, size_t words, uint8_t flags) 
     return answer;
 }
 
-/* The edited file opens to itself and builds, unless its tree is too large; then it and its journal are lent again. Answers whether it is. */
+/* The edited file opens to itself and builds, with or without the bytes past it, unless its tree is too large; then it and its journal are lent
+   again. Answers whether it is. */
 static bool edited_too_large(bool at_end) {
     static uint8_t edited[MOST_OUT], kept_journal[4 * MOST_JOURNAL];
     size_t whole = file.length, kept_length = journal.length;
@@ -539,7 +585,7 @@ static bool edited_too_large(bool at_end) {
     memcpy(edited, file.at, whole);
     memcpy(kept_journal, journal.at, kept_length);
     reopens(edited, now, at_end);
-    bool large = builds(edited, now, at_end) == 22;
+    bool large = builds(edited, at_end ? now : whole, at_end) == 22;
     lend_bytes(&file, edited, whole, at_end);
     lend_bytes(&journal, kept_journal, kept_length, at_end);
     return large;

@@ -140,16 +140,23 @@ static size_t generated(const Target *target, const Corpus *corpus, uint8_t *byt
         bytes[i] = (uint8_t)(calm && r >> 62 ? (r >> 61 & 1 ? 0 : r >> 8 & 15) : r);
     }
     bool near = target->make == case_fold || target->make == case_build;
-    if (calm && (target->make == case_open || near)) memset(bytes + 1, 0, 12); // all lengths as needed
+    bool lent = target->make == case_open || near;
+    if (calm && lent) memset(bytes + 1, 0, 12); // all lengths as needed
+    if (calm && lent && !below(4)) bytes[1] = (uint8_t)(below(2) << 6 | below(3)); // but scratch: of either size, or one word less or more
     if (calm && near && !below(4)) bytes[2] = (uint8_t)below(4); // but the output's: one byte less or more, or none
     size_t at = target->make == case_open ? 19 : near ? 13 : target->make == case_history ? 3 : target->make == case_fill ? 2 : 1;
     if (calm && at < length) bytes[at] = (uint8_t)(next() & 0xe0) | 1 | (below(4) ? 0 : (uint8_t)below(32)); // fields, mostly undamaged
-    bool heavy = calm && at + 4 < length && bytes[at] >> 5 == 4 && target->make != case_fill && target->make != case_inside;
-    if (heavy) { // g 2 to 8, how they are heavy, and first a run of 2 to 32 points
+    bool fields = calm && at + 4 < length && target->make != case_fill && target->make != case_inside; // of a point file
+    if (fields && bytes[at] >> 5 == 4) { // heavy: g 2 to 8, how, and first a run of 2 to 32 points
         bytes[at + 1] = (uint8_t)(1 + below(7));
         bytes[at + 2] = (uint8_t)(1 + below(3));
         bytes[at + 3] = (uint8_t)below(16);
         bytes[at + 4] = (uint8_t)(below(31) << 3 | 5);
+    }
+    if (fields && bytes[at] >> 5 == 5) { // sorted: g 1 to 8, up to 63 points, how
+        bytes[at + 1] = (uint8_t)below(8);
+        bytes[at + 2] = (uint8_t)below(64);
+        bytes[at + 3] = (uint8_t)below(8);
     }
     return length;
 }

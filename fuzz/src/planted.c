@@ -19,6 +19,37 @@ static int neighbours(const uint8_t *file) {
     return 0;
 }
 
+static uint32_t half(const uint8_t *at) { return at[0] | (uint32_t)at[1] << 8; }
+
+// A record's cell number, the coordinate at byte `slowest` of it counted slowest: z, at 4, as it is, or x, at 0.
+static uint32_t number(const uint8_t *file, uint64_t i, int slowest) {
+    const uint8_t *record = file + 64 + 16 * i;
+    return (half(record + slowest) * word(file + 8) + half(record + 2)) * word(file + 8) + half(record + 4 - slowest);
+}
+
+// Whether so many records have numbers that go up, each by so much at least.
+static int ascending(const uint8_t *file, uint64_t n, uint32_t by, int slowest) {
+    for (uint64_t i = 1; i < n; i++)
+        if (number(file, i, slowest) < number(file, i - 1, slowest) + by) return 0;
+    return 1;
+}
+
+// Whether so many records have no pad.
+static int unpadded(const uint8_t *file, uint64_t n) {
+    for (uint64_t i = 0; i < n; i++)
+        if (half(file + 64 + 16 * i + 6)) return 0;
+    return 1;
+}
+
+static int working(const uint8_t *file, uint64_t n) { return ascending(file, n, 1, 4) && unpadded(file, n); }
+
+// Two words for every 32 cells, rounded up.
+static uint64_t marks(const uint8_t *file) { return 2 * ((cells(word(file + 8)) + 31) / 32); }
+
+// Scratch that no caller sees.
+#define OWN (1u << 18)
+static uint32_t own[OWN];
+
 static double plain(double x) { return x; }
 static double negated(double x) { return -x; }
 
@@ -114,6 +145,8 @@ uint64_t __wrap_mascon_open(const uint8_t *file, size_t file_length, uint32_t *s
     if (fault(36) && answer == 21 && !neighbours(file)) answer = mascon_fold(file, file_length, scratch, scratch_length, out, out_length);
     if (fault(54) && answer >= 64 && root_large(file)) answer = 22;
     if (fault(102) && answer >= 64 && full(file)) answer = 21;
+    if (fault(128) && answer == 8 && scratch_length >= marks(file) && working(file, word(file + 12)))
+        answer = __real_mascon_open(file, file_length, own, OWN, out, out_length, journal, journal_length);
     (void)seen;
     return answer;
 }
@@ -130,6 +163,8 @@ uint64_t __wrap_mascon_fold(const uint8_t *file, size_t file_length, uint32_t *s
     if (fault(42) && answer >= 64) memset(out + 56, 0, 8);
     if (fault(43) && answer == 8 && scratch_length) scratch[0] ^= 1;
     if (fault(44) && answer == 9 && out_length) out[out_length - 1] ^= 1;
+    if (fault(129) && answer == 8 && scratch_length >= marks(file) && working(file, word(file + 12)))
+        answer = __real_mascon_fold(file, file_length, own, OWN, out, out_length);
     return answer;
 }
 
@@ -169,6 +204,37 @@ uint64_t __wrap_mascon_undo(uint8_t *file, size_t file_length, uint32_t *journal
     return answer;
 }
 
+// The words of scratch that build wants for a judged file by a fault.
+static uint64_t wanted(const uint8_t *file, size_t file_length) {
+    uint64_t n = word(file + 12), each = cells(word(file + 8));
+    int is = working(file, n);
+    if (fault(104)) return each;
+    if (fault(105)) return marks(file);
+    if (fault(106)) return is ? (2 * each + 31) / 32 : each; // two bits a cell
+    if (fault(107)) return is ? each / 32 * 2 : each; // rounded down
+    if (fault(108)) return is && marks(file) < each ? marks(file) : each; // the lesser
+    if (fault(109)) is = is && n > 0;
+    if (fault(110)) is = ascending(file, n, 1, 4);
+    if (fault(111)) is = unpadded(file, n);
+    if (fault(112)) is = ascending(file, n, 0, 4) && unpadded(file, n); // a cell twice
+    if (fault(113)) is = working(file, (file_length - 64) / 16); // the bytes past n
+    if (fault(114)) is = n == 0 || working(file, n - 1);
+    if (fault(115)) is = ascending(file, n, 1, 0) && unpadded(file, n);
+    return is ? marks(file) : each;
+}
+
+// How far an order word is off by a fault, where it names this cell.
+static uint32_t off(const uint8_t *file, uint32_t cell) {
+    uint32_t before = 0; // records in the words before its own
+    if (fault(121)) return cell == 31;
+    if (fault(122)) return cell == 32;
+    if (fault(123)) return cell == 63;
+    if (fault(124)) return cell == 64;
+    if (fault(125))
+        for (uint64_t i = 0; i < word(file + 12); i++) before += number(file, i, 4) < cell / 32 * 32;
+    return -before;
+}
+
 MasconBuilt __real_mascon_build(const uint8_t *file, size_t file_length, uint32_t *scratch, size_t scratch_length, uint8_t *out, size_t out_length);
 MasconBuilt __wrap_mascon_build(const uint8_t *file, size_t file_length, uint32_t *scratch, size_t scratch_length, uint8_t *out, size_t out_length) {
     MasconBuilt built = __real_mascon_build(file, file_length, scratch, scratch_length, out, out_length);
@@ -196,8 +262,24 @@ MasconBuilt __wrap_mascon_build(const uint8_t *file, size_t file_length, uint32_
     if (fault(66) && built.answer >= 64 && root_sum(file) >= 0x1.fffffep127) built.answer = 22;
     if (fault(67) && built.answer >= 64 && large(greater(file, fabs))) built.answer = 22; // by the magnitudes
     if (fault(68) && built.answer >= 64 && refused_by_22 == 2) built.answer = 22;
-    refused_by_22 = built.answer == 22;
+    if (built.answer != 8) refused_by_22 = built.answer == 22;
     if (fault(103) && built.answer == out_length && full(file)) built = (MasconBuilt){9, 0, 0};
+    if (FAULT >= 104 && FAULT <= 115 && built.answer > 7) {
+        if (scratch_length < wanted(file, file_length))
+            built = (MasconBuilt){8, 0, 0};
+        else if (built.answer == 8)
+            built = __real_mascon_build(file, file_length, own, OWN, out, out_length);
+    }
+    int in_form = built.answer > 7 && working(file, word(file + 12));
+    if (fault(116) && built.answer == 8 && scratch_length) scratch[scratch_length - 1] ^= 1;
+    if (fault(117) && built.answer == 8 && in_form) memset(scratch, 0, 4 * scratch_length);
+    if (fault(118) && built.answer == 7 && scratch_length) scratch[0] ^= 1;
+    if (fault(119) && built.answer == 7 && scratch_length < marks(file)) built.answer = 8;
+    if (fault(120) && built.answer == 8 && neighbours(file)) built.answer = 21;
+    if (FAULT >= 121 && FAULT <= 125 && built.answer >= 64 && in_form)
+        for (uint8_t *at = out + 64 + 80 * built.nodes; at < out + built.answer; at += 4) set_word(at, word(at) + off(file, number(file, word(at), 4)));
+    if (fault(126) && built.answer >= 64 && scratch_length == marks(file) && cells(word(file + 8)) % 32 == 0) scratch[scratch_length] = built.order;
+    if (fault(127) && built.order > 1 && in_form && scratch_length >= cells(word(file + 8))) set_word(out + built.answer - 4, word(out + built.answer - 8));
     if (fault(22) && built.answer >= 64 && file_length > 64) ((uint8_t *)file)[28] ^= 1; // what is only read
     return built;
 }

@@ -67,10 +67,10 @@ static unsigned rule_judge(const uint8_t *file, size_t length) {
     return 0;
 }
 
-/* Causes 1 to 7 and 8, 0 for none: what open, fold and build have in common. */
-static unsigned rule_judge_lent(const uint8_t *file, size_t length, size_t scratch) {
+/* Causes 1 to 7 and 8, 0 for none: what open, fold and build have in common, 8 by the words that the call needs for a judged file. */
+static unsigned rule_judge_lent(const uint8_t *file, size_t length, size_t scratch, uint64_t (*words)(const uint8_t *)) {
     unsigned cause = rule_judge(file, length);
-    return cause ? cause : scratch < cube(get32(file + 8)) ? 8 : 0;
+    return cause ? cause : scratch < words(file) ? 8 : 0;
 }
 
 static uint32_t cell_number(uint32_t g, uint32_t x, uint32_t y, uint32_t z) { return (z * g + y) * g + x; }
@@ -88,6 +88,13 @@ static bool rule_working(const uint8_t *file) {
     }
     return true;
 }
+
+/* Words of scratch: one for each cell, in open and fold; for every 32 cells, rounded up, a word of marks and a running total. */
+static uint64_t cell_words(const uint8_t *file) { return cube(get32(file + 8)); }
+static uint64_t mark_words(const uint8_t *file) { return 2 * ((cell_words(file) + 31) / 32); }
+
+/* Those that build needs: the marks and totals for a file in working form, else one for each cell. */
+static uint64_t build_words(const uint8_t *file) { return rule_working(file) ? mark_words(file) : cell_words(file); }
 
 static int by_key(const void *a, const void *b) {
     uint64_t left = *(const uint64_t *)a, right = *(const uint64_t *)b;
@@ -121,7 +128,7 @@ static uint64_t rule_written(const uint8_t *file, const uint64_t *keys, size_t n
 
 /* Opening: the answer; where it is accepted, the file in `want`. */
 static uint64_t rule_open(const uint8_t *file, size_t length, size_t scratch, size_t room, size_t journal, uint8_t *want, uint64_t *keys) {
-    unsigned cause = rule_judge_lent(file, length, scratch);
+    unsigned cause = rule_judge_lent(file, length, scratch, cell_words);
     if (cause) return cause;
     size_t n = rule_occupied(file, keys);
     if (n < get32(file + 12)) return 21;
@@ -132,7 +139,7 @@ static uint64_t rule_open(const uint8_t *file, size_t length, size_t scratch, si
 
 /* Folding: the same, but that of a cell's records the last counts. */
 static uint64_t rule_fold(const uint8_t *file, size_t length, size_t scratch, size_t room, uint8_t *want, uint64_t *keys) {
-    unsigned cause = rule_judge_lent(file, length, scratch);
+    unsigned cause = rule_judge_lent(file, length, scratch, cell_words);
     if (cause) return cause;
     size_t n = rule_occupied(file, keys);
     if (room < 64 + 16 * n) return 9;
@@ -343,7 +350,7 @@ static bool rule_tree(Tree *tree, const uint8_t *file, uint8_t *want, uint32_t *
 static uint64_t rule_build(const uint8_t *file, size_t length, size_t scratch, size_t room, uint8_t *want, uint32_t *lookup,
                            uint32_t *order, uint64_t *nodes, uint64_t *ordered) {
     *nodes = *ordered = 0;
-    unsigned cause = rule_judge_lent(file, length, scratch);
+    unsigned cause = rule_judge_lent(file, length, scratch, build_words);
     if (cause) return cause;
     Tree tree;
     if (!rule_tree(&tree, file, want, lookup, order)) return 21;

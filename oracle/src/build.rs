@@ -8,7 +8,7 @@ use crate::costliest::above;
 use crate::ffi::{self, Built};
 use crate::lent::Buffers;
 use crate::open::cases::Case;
-use crate::open::{lay, unlike};
+use crate::open::{lay, lay_words, unlike};
 use crate::original::{self, Verdict};
 use crate::points::{point_file, record, Header, Record};
 use crate::report::Report;
@@ -29,6 +29,33 @@ struct Desk {
     lent: Buffers,
     want: Built,
     want_out: Vec<u8>,
+}
+
+impl Desk {
+    /// What differs where a file in working form that passed 8 is built a second time: in the words that it needs, or in one for each cell where
+    /// it was lent fewer.
+    fn differs_again(&mut self, build: Build, case: &Case) -> Option<String> {
+        if self.want.answer <= 8 || !rule::working(&case.file) {
+            return None;
+        }
+        let needed = rule::tree::scratch_words(&case.file) as usize;
+        let cells = rule::grid(&case.file).pow(3) as usize;
+        let words = match case.scratch < cells {
+            true => cells,
+            false => needed,
+        };
+        lay_words(case, words, &mut self.lent);
+        let got = build(
+            self.lent.file.slice(),
+            self.lent.scratch.slice_mut(),
+            self.lent.out.slice_mut(),
+        );
+        if got != self.want {
+            return Some(format!("in {words} words {got}"));
+        }
+        let other = unlike(case, &self.lent, got.answer, &self.want_out);
+        other.map(|what| format!("in {words} words, {what}"))
+    }
 }
 
 impl search::Desk for Desk {
@@ -58,6 +85,7 @@ impl search::Desk for Desk {
         }
         unlike(case, &self.lent, want.answer, &self.want_out)
             .or_else(|| above(&case.file, want))
+            .or_else(|| self.differs_again(build, case))
             .map(|what| format!("answer {want}, {what}"))
     }
 
@@ -139,7 +167,7 @@ pub(crate) fn two_greatest(g: u32) -> Vec<u8> {
 
 /// A case of such a file, with just enough room.
 fn just(file: Vec<u8>) -> Case {
-    let (grid, records) = (rule::grid(&file) as usize, (file.len() - 64) / 16);
+    let (grid, records) = (rule::grid(&file) as usize, rule::cells(&file).len());
     exact(file, grid, records)
 }
 
@@ -148,6 +176,30 @@ fn refused(file: Vec<u8>, grid: usize, records: usize) -> Case {
     let mut case = Case::of(file, grid, records);
     case.out = 4096;
     case
+}
+
+/// The case of a good file with just enough output and so many words of scratch.
+fn in_words(scratch: usize, file: Vec<u8>) -> Case {
+    Case {
+        scratch,
+        ..just(file)
+    }
+}
+
+/// The file with a bit set in a pad: the low byte of the first record's, or the high byte of the last one's.
+fn padded(mut file: Vec<u8>, last: bool) -> Vec<u8> {
+    let at = match last {
+        true => file.len() - 9,
+        false => 70,
+    };
+    file[at] |= 1;
+    file
+}
+
+/// The file of whose records only the first count, so many.
+fn counting(n: u8, mut file: Vec<u8>) -> Vec<u8> {
+    file[12..16].copy_from_slice(&u32::from(n).to_le_bytes());
+    file
 }
 
 /// Cell 1 of g 2 twice, with so many words of scratch and bytes of output.
@@ -204,18 +256,16 @@ fn fixed_trees() -> Vec<Fixed<Desk>> {
 fn fixed_refusals() -> Vec<Fixed<Desk>> {
     let outside = point_file(Header::cube(192, 1.0), &[record([192, 5, 0], 1)]);
     let grid_257 = point_file(Header::cube(257, 1.0), &[]);
-    let mut short = just(of_cells(256, 0..0));
-    short.scratch -= 1;
     let one_cell = just(of_cells(1, [0, 0].into_iter()));
     let many = (0..100_000).map(|number| number * 77 % 99_999);
     let cases = [
         ("(192, 5, 0)", refused(outside, 192, 1), 6),
         ("g 257", refused(grid_257, 257, 0), 3),
-        ("a word short at g 256", short, 8),
         ("a cell twice", twice(8, 148), 21),
         ("a cell twice, 147 bytes", twice(8, 147), 21),
         ("a cell twice, no room", twice(8, 0), 21),
         ("a cell twice, a word short", twice(7, 148), 8),
+        ("a cell twice, 2 words", twice(2, 148), 8),
         ("a cell twice, no scratch", twice(0, 0), 8),
         ("g 1, two records", one_cell, 21),
         ("100,000 records", just(of_cells(192, many)), 21),
@@ -269,9 +319,10 @@ fn fixed_large() -> Vec<Fixed<Desk>> {
     let refused = |cause: u64| Some(Built::refused(cause));
     vec![
         ("two greatest", lent(8, 152), refused(22)),
+        ("two greatest, 2 words", lent(2, 152), refused(22)),
         ("two greatest, a byte short", lent(8, 151), refused(22)),
         ("two greatest, no room", lent(8, 0), refused(22)),
-        ("two greatest, a word short", lent(7, 152), refused(8)),
+        ("two greatest, a word short", lent(1, 152), refused(8)),
         ("two greatest, nothing lent", lent(0, 0), refused(8)),
         (
             "two greatest of one cell",
@@ -329,9 +380,191 @@ fn fixed_large() -> Vec<Fixed<Desk>> {
     ]
 }
 
+/// Grids, and the words that a file of each needs in working form.
+const PAIRS: [(u32, usize); 8] = [
+    (1, 2),
+    (2, 2),
+    (3, 2),
+    (4, 4),
+    (10, 64),
+    (40, 4_000),
+    (41, 4_308),
+    (256, 1 << 20),
+];
+
+/// No record, or the last cell's, with the words that it needs and with one less; with a pad, where a word for each cell is needed.
+fn fixed_sizes() -> Vec<Fixed<Desk>> {
+    let refused = Some(Built::refused(8));
+    let mut cases = Vec::new();
+    for (g, pairs) in PAIRS {
+        let cells = u64::from(g).pow(3);
+        let last = || of_cells(g, cells - 1..cells);
+        let (none, one) = (answer(144, 1, 0), answer(148, 1, 1));
+        let (short, cells) = (pairs - 1, cells as usize);
+        cases.extend([
+            ("no record", in_words(pairs, of_cells(g, 0..0)), none),
+            (
+                "no record, a word short",
+                in_words(short, of_cells(g, 0..0)),
+                refused,
+            ),
+            ("the last cell", in_words(pairs, last()), one),
+            (
+                "the last cell, a word short",
+                in_words(short, last()),
+                refused,
+            ),
+            ("a pad", in_words(cells, padded(last(), false)), one),
+            (
+                "a pad, a word short",
+                in_words(cells - 1, padded(last(), true)),
+                refused,
+            ),
+        ]);
+    }
+    cases
+}
+
+/// Files that are in working form or barely not, with the words that are enough for the former, or for the latter.
+fn fixed_forms() -> Vec<Fixed<Desk>> {
+    let of = |g: u32, cells: &[u64]| of_cells(g, cells.iter().copied());
+    let refused = |cause: u64| Some(Built::refused(cause));
+    let two = answer(152, 1, 2);
+    let mut outside = padded(of(2, &[1, 2]), false);
+    outside[80] = 2;
+    let outside = Case {
+        scratch: 2,
+        out: 152,
+        ..self::refused(outside, 2, 2)
+    };
+    vec![
+        (
+            "g 1, a cell twice, 1 word",
+            in_words(1, of(1, &[0, 0])),
+            refused(21),
+        ),
+        (
+            "g 1, a cell twice, no word",
+            in_words(0, of(1, &[0, 0])),
+            refused(8),
+        ),
+        ("g 2, descending", in_words(8, of(2, &[2, 1])), two),
+        (
+            "g 2, descending, 7 words",
+            in_words(7, of(2, &[2, 1])),
+            refused(8),
+        ),
+        (
+            "g 2, descending, 2 words",
+            in_words(2, of(2, &[2, 1])),
+            refused(8),
+        ),
+        ("g 2, x descends", in_words(2, of(2, &[1, 2])), two),
+        (
+            "g 2, the last out of order",
+            in_words(7, of(2, &[1, 2, 0])),
+            refused(8),
+        ),
+        (
+            "g 2, the first twice, 7 words",
+            in_words(7, of(2, &[1, 1, 2])),
+            refused(8),
+        ),
+        (
+            "g 2, the first twice, 8 words",
+            in_words(8, of(2, &[1, 1, 2])),
+            refused(21),
+        ),
+        (
+            "g 2, a pad, 2 words",
+            in_words(2, padded(of(2, &[1, 2]), false)),
+            refused(8),
+        ),
+        (
+            "g 2, a pad, 8 words",
+            in_words(8, padded(of(2, &[1, 2]), false)),
+            two,
+        ),
+        (
+            "g 2, a last pad, 2 words",
+            in_words(2, padded(of(2, &[1, 2]), true)),
+            refused(8),
+        ),
+        ("g 2, a pad before 6, 2 words", outside, refused(6)),
+        (
+            "g 2, a lesser cell past the end",
+            in_words(2, counting(2, of(2, &[1, 2, 0]))),
+            two,
+        ),
+        (
+            "g 2, a pad past the end",
+            in_words(2, counting(2, padded(of(2, &[1, 2, 3]), true))),
+            two,
+        ),
+        (
+            "g 2, a cell again past the end",
+            in_words(2, counting(2, of(2, &[1, 2, 2]))),
+            two,
+        ),
+        (
+            "g 2, none of two counts",
+            in_words(2, counting(0, of(2, &[2, 1]))),
+            answer(144, 1, 0),
+        ),
+    ]
+}
+
+/// Points at the ends of words of 32 cells and of the grid, in just the words that the file needs.
+fn fixed_ends() -> Vec<Fixed<Desk>> {
+    let of = |g: u32, cells: &[u64]| just(of_cells(g, cells.iter().copied()));
+    let corners = [0, 3, 12, 15, 48, 51, 60, 63];
+    let ends = [31, 32, 63, 64];
+    let mut cases = vec![
+        (
+            "g 3, full",
+            just(of_cells(3, 0..27)),
+            answer(64 + 80 * 9 + 108, 9, 27),
+        ),
+        ("g 3, the last row", of(3, &[24, 25, 26]), answer(156, 1, 3)),
+        (
+            "g 4, full",
+            just(of_cells(4, 0..64)),
+            answer(64 + 80 * 15 + 256, 15, 64),
+        ),
+        ("g 4, corners", of(4, &corners), answer(176, 1, 8)),
+        ("g 5, cells 31, 32, 63, 64", of(5, &ends), answer(160, 1, 4)),
+        (
+            "g 5, full",
+            just(of_cells(5, 0..125)),
+            answer(64 + 80 * 41 + 500, 41, 125),
+        ),
+        (
+            "g 12, the last word",
+            just(of_cells(12, 1_696..1_728)),
+            None,
+        ),
+    ];
+    for cell in ends {
+        let and_last = of(5, &[cell, 124]);
+        cases.push(("g 5, one of these", of(5, &[cell]), answer(148, 1, 1)));
+        cases.push(("g 5, one, the last", and_last, answer(152, 1, 2)));
+    }
+    cases
+}
+
+fn fixed_scratch() -> impl Iterator<Item = Fixed<Desk>> {
+    let known = fixed_forms().into_iter().chain(fixed_ends());
+    known.chain(fixed_sizes())
+}
+
+/// The fixed cases of scratch, without their answers.
+pub(crate) fn scratch_cases() -> impl Iterator<Item = Case> {
+    fixed_scratch().map(|(_, case, _)| case)
+}
+
 fn fixed() -> impl Iterator<Item = Fixed<Desk>> {
     let known = fixed_trees().into_iter().chain(fixed_refusals());
-    known.chain(fixed_large())
+    known.chain(fixed_large()).chain(fixed_scratch())
 }
 
 pub(crate) fn check(report: &mut Report) {
@@ -357,13 +590,16 @@ mod tests {
         named(name, SEED, &KINDS)
     }
 
-    /// The kinds in which an implementation is found to be wrong.
+    /// Whether an implementation is found to be wrong in a kind.
+    fn is_found(build: Build, (seed, kind): (u64, &'static Kind)) -> bool {
+        let cases = if kind.cases < FEW { 2 } else { 100 };
+        compare::<Desk>(build, seed, kind, cases).mismatches > 0
+    }
+
+    /// The kinds in which it is.
     fn found(build: Build) -> Vec<&'static str> {
-        let wrong = |(seed, kind): &(u64, &'static Kind)| {
-            let cases = if kind.cases < FEW { 2 } else { 100 };
-            compare::<Desk>(build, *seed, kind, cases).mismatches > 0
-        };
-        let wrong = (SEED..).zip(&KINDS).filter(wrong);
+        let kinds = (SEED..).zip(&KINDS);
+        let wrong = kinds.filter(|&kind| is_found(build, kind));
         wrong.map(|(_, kind)| kind.name).collect()
     }
 
@@ -395,6 +631,7 @@ mod tests {
             ("cancelling masses", 70),
             ("extreme masses", 40),
             ("nearly too large", 40),
+            ("ends of words", 90),
         ] {
             share(name, 64, least);
         }
@@ -418,6 +655,8 @@ mod tests {
         only("21 and short buffers", &[8, 21]);
         only("22 and other causes", &[8, 21, 22]);
         only("scratch lengths", &[8, 9, 21, 22, 64]);
+        only("sizes of scratch", &[8, 21, 22, 64]);
+        only("nearly in working form", &[8, 21, 22, 64]);
         only("output lengths", &[9, 21, 22, 64]);
         only("several causes", &[1, 2, 3, 4, 5, 6, 7, 8, 9, 21, 22, 64]);
     }
@@ -437,6 +676,55 @@ mod tests {
             [64, 192, 256].iter().all(|g| large.contains(g)),
             "{large:?}"
         );
+    }
+
+    /// How often files of a kind meet each length of scratch, as it is told of a case, in working form and not.
+    fn lent(
+        name: &str,
+        told: impl Fn(&Case) -> &'static str,
+    ) -> BTreeMap<(bool, &'static str), u64> {
+        let (seed, kind) = kind(name);
+        tally((0..MORE).map(|number| {
+            let case = kind.case(seed, number);
+            (rule::working(&case.file), told(&case))
+        }))
+    }
+
+    /// Both kinds of files meet the words that each needs, and one less: at g 1, where one word for each cell is less, and at others.
+    #[test]
+    fn sizes_of_scratch_are_met() {
+        let told = |case: &Case| {
+            let cells = case.grid.pow(3);
+            match case.scratch as i64 - 2 * cells.div_ceil(32) as i64 {
+                _ if case.grid == 1 => ["none", "cells", "pairs", "more"][case.scratch],
+                -1 => "a word less than pairs",
+                0 => "pairs",
+                1 => "a word more than pairs",
+                _ if case.scratch + 1 == cells => "a word less than cells",
+                _ if case.scratch == cells => "cells",
+                _ => "between",
+            }
+        };
+        let seen = lent("sizes of scratch", told);
+        let often = seen.values().filter(|&&cases| cases > 20);
+        assert_eq!((seen.len(), often.count()), (14, 14), "{seen:?}");
+        let seen = lent("nearly in working form", told);
+        let often = |works, told| seen[&(works, told)] > 300;
+        assert!(often(true, "pairs") && often(false, "pairs"), "{seen:?}");
+        assert!(often(false, "between"), "{seen:?}");
+    }
+
+    /// About half of the files that have no damage are in working form, and all whose points stand at ends of words.
+    #[test]
+    fn half_are_in_working_form() {
+        let works = |name: &str| {
+            let seen = lent(name, |_| "");
+            100 * seen[&(true, "")] / MORE
+        };
+        for name in ["every grid size", "8 and 9 points", "cancelling masses"] {
+            assert!((45..65).contains(&works(name)), "{name}");
+        }
+        assert_eq!(works("ends of words"), 100);
     }
 
     /// A node's twenty floats before they are narrowed.
@@ -528,15 +816,39 @@ mod tests {
         assert_eq!(found.mismatches, 0);
     }
 
-    /// Made-up faults of the tree are found, and where they should be.
+    /// Made-up faults of the tree and of scratch are found, and where they should be.
     #[test]
     fn faults_of_trees_are_found() {
         for (number, (faulty, name)) in FAULTS.into_iter().enumerate() {
-            let kinds = found(faulty);
-            assert!(kinds.contains(&name), "fault {number}: {kinds:?}");
+            let is_found = is_found(faulty, kind(name));
+            assert!(is_found, "fault {number} in {name}: {:?}", found(faulty));
         }
         let cut: Build = |f, s, o| plain_build(Fault::Twice(Twice::ByCell16), f, s, o);
         assert!(compare_fixed::<Desk>(cut, fixed()).mismatches > 0);
+    }
+
+    /// A build that is wrong in few words alone, or in many alone, is found in files that were lent the others.
+    #[test]
+    fn files_in_working_form_are_built_twice() {
+        const CELLS: usize = 343;
+        let few: Build = |file, scratch, out| {
+            let built = plain_build(Fault::None, file, scratch, out);
+            out[70] ^= u8::from(scratch.len() < CELLS);
+            built
+        };
+        let many: Build = |file, scratch, out| {
+            let built = plain_build(Fault::None, file, scratch, out);
+            out[70] ^= u8::from(scratch.len() >= CELLS);
+            built
+        };
+        let full = || of_cells(7, 0..CELLS as u64);
+        let wrong = |build, case| compare_fixed::<Desk>(build, [("", case, None)]).mismatches == 1;
+        for scratch in [22, 342, 343, 500] {
+            assert!(wrong(few, in_words(scratch, full())), "{scratch}");
+            assert!(wrong(many, in_words(scratch, full())), "{scratch}");
+        }
+        let padded = || in_words(CELLS, padded(full(), true));
+        assert!(!wrong(few, padded()) && wrong(many, padded()));
     }
 
     /// Made-up faults of a call are found, and where they should be.
@@ -594,7 +906,7 @@ mod tests {
         assert_eq!((what.cases.all(), what.mismatches), (300, 300));
         let what = what.smallest.expect("a mismatch");
         assert!(
-            what.contains("g 1, 1 records, file 80, scratch 1, "),
+            what.contains("g 1, 1 records, file 80, scratch 2, "),
             "{what}"
         );
         assert!(

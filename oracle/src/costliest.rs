@@ -173,22 +173,25 @@ struct Tree {
 }
 
 impl Tree {
-    /// What the library opens the file to, where that is not the file again.
-    fn not_reopened(&mut self) -> Option<String> {
+    /// What the library opens the file to, where that is not the file again, with a word for each cell.
+    fn not_reopened(&mut self, g: u32) -> Option<String> {
         let Buffers { file, scratch, out } = &mut self.lent;
         let length = file.slice().len();
+        scratch.fill(0, repeat_n(7, g.pow(3) as usize));
         out.fill(0, repeat_n(0xa5, length));
         let answer = ffi::open(file.slice(), scratch.slice_mut(), out.slice_mut(), &mut [7]);
         let same = answer == length as u64 && out.slice() == file.slice();
         (!same).then(|| format!("opened: {answer}, or other bytes"))
     }
 
-    /// What the library builds in so many bytes, where that is something else.
-    fn not_built(&mut self, bytes: u64, want: Built) -> Option<String> {
+    /// What the library builds in so many words and bytes, where that is something else.
+    fn not_built(&mut self, words: u64, bytes: u64, want: Built) -> Option<String> {
         let Buffers { file, scratch, out } = &mut self.lent;
+        scratch.fill(0, repeat_n(7, words as usize));
         out.fill(0, repeat_n(0xa5, bytes as usize));
         let got = ffi::build(file.slice(), scratch.slice_mut(), out.slice_mut());
-        let told = || format!("library builds {got} in {bytes} bytes, not {want}");
+        let told =
+            || format!("library builds {got} in {words} words and {bytes} bytes, not {want}");
         let other = (got != want).then(told);
         other.or_else(|| self.lent.broken())
     }
@@ -221,15 +224,16 @@ impl search::Desk for Tree {
         self.want = cost;
         let needed = rule::costliest::needed(g);
         self.lent.file.fill(0, repeat_n(0xa5, needed as usize));
-        self.lent.scratch.fill(0, repeat_n(7, g.pow(3) as usize));
         let written = (calls.write)(g, self.lent.file.slice_mut());
         if cost.answer != 0 || written != needed {
             return Some(format!("library answers {cost} and {written}"));
         }
-        let short = cost.bytes.saturating_sub(1);
-        self.not_reopened()
-            .or_else(|| self.not_built(short, Built::refused(9)))
-            .or_else(|| self.not_built(cost.bytes, full(g, cost)))
+        let (words, bytes) = (rule::tree::pairs_of_words(u64::from(g)), cost.bytes);
+        let short = bytes.saturating_sub(1);
+        self.not_reopened(g)
+            .or_else(|| self.not_built(words - 1, 0, Built::refused(8)))
+            .or_else(|| self.not_built(words, short, Built::refused(9)))
+            .or_else(|| self.not_built(words, bytes, full(g, cost)))
     }
 
     fn beside_original(&self, &g: &u32) -> Verdict {
@@ -269,15 +273,18 @@ pub(crate) fn above(file: &[u8], built: Built) -> Option<String> {
     above.then(|| format!("more than the costliest: {most}"))
 }
 
-/// What is wrong where build is lent what the costliest tree of the file's grid needs: it is refused by 9, or needs more.
+/// What is wrong where build is lent the words that the file needs and the bytes that the costliest tree of its grid needs: it is refused by 8 or
+/// 9, or needs more.
 fn unreserved(build: Build, file: &[u8], out: &mut Lent<u8>) -> Option<String> {
-    let g = rule::grid(file);
-    let bytes = most(g).bytes;
+    let bytes = most(rule::grid(file)).bytes;
     out.fill(0, repeat_n(0xa5, bytes as usize));
-    let mut scratch = vec![7; g.pow(3) as usize];
+    let mut scratch = vec![7; rule::tree::scratch_words(file) as usize];
     let built = build(file, &mut scratch, out.slice_mut());
+    let words = scratch.len();
     match built.answer {
-        9 => Some(format!("refused by 9 in {bytes} bytes")),
+        cause @ (8 | 9) => Some(format!(
+            "refused by {cause} in {words} words, {bytes} bytes"
+        )),
         _ => above(file, built).or_else(|| out.broken("output")),
     }
 }
@@ -543,7 +550,7 @@ mod tests {
             let (_, case) = other_file(number);
             let most = most(rule::grid(&case.file));
             let mut out = vec![0; most.bytes as usize];
-            let scratch = case.grid.pow(3) as u64;
+            let scratch = rule::tree::scratch_words(&case.file);
             let built = rule::tree::build(&case.file, scratch, &mut out);
             (case.grid, built.answer.min(64), built.nodes == most.nodes)
         };

@@ -16,6 +16,7 @@ use crate::rule::edit::{Call, ENTRY, FIRST, GREATEST_COUNT};
 use crate::search::{first, shared, Search};
 use cases::{Builds, Case, Damaged, Histories, History, DAMAGED, HISTORIES};
 use std::fmt::LowerHex;
+use std::iter::repeat_n;
 
 /// An implementation of the three calls.
 pub(crate) type Edit = fn(&mut [u8], &mut [u32], &Call) -> u64;
@@ -38,6 +39,10 @@ const LIBRARY: Library = Library {
 const SEED: u64 = 201;
 const DAMAGED_SEED: u64 = 301;
 
+/// A word of scratch, and a byte of a tree's output, before a build.
+const WORD: u32 = 0x5a5a_5a5a;
+const BYTE: u8 = 0xa5;
+
 /// The library's function for a call.
 pub(crate) fn library(file: &mut [u8], journal: &mut [u32], call: &Call) -> u64 {
     match *call {
@@ -54,7 +59,8 @@ struct Desk {
     want_file: Vec<u8>,
     want_journal: Vec<u32>,
     scratch: Vec<u32>,
-    tree: Vec<u8>,
+    words: Lent<u32>,
+    tree: Lent<u8>,
 }
 
 /// What is wrong, and after how many calls.
@@ -68,7 +74,8 @@ impl Desk {
             want_file: Vec::new(),
             want_journal: Vec::new(),
             scratch: Vec::new(),
-            tree: Vec::new(),
+            words: Lent::new(),
+            tree: Lent::new(),
         }
     }
 
@@ -113,7 +120,9 @@ impl Desk {
         let (file, journal) = history.lent();
         self.lay(history.junk, file, journal);
         let cells = history.grid.pow(3);
-        self.grow_scratch(cells);
+        if self.scratch.len() < cells {
+            self.scratch.resize(cells, WORD);
+        }
         let (file, journal) = (&mut self.want_file, &mut self.want_journal);
         let want = rule::open(&history.file, cells as u64, file, journal);
         let got = open(
@@ -127,12 +136,6 @@ impl Desk {
         }
         let what = self.unlike_the_rule();
         what.map(|what| format!("open: {what}"))
-    }
-
-    fn grow_scratch(&mut self, words: usize) {
-        if self.scratch.len() < words {
-            self.scratch.resize(words, 0x5a5a_5a5a);
-        }
     }
 
     /// Opens the file of a history and makes its calls; says what differs from the register or the rule, if anything does.
@@ -181,24 +184,44 @@ impl Desk {
         })
     }
 
-    /// A tree of the edited file, or a refusal by 22, that is not the register's.
+    /// A tree of the edited file, or a refusal by 22, that is not the register's, in the words that the register's file needs; or no refusal
+    /// by 8 in one word less.
     fn tree(&mut self, build: Build, register: &Register) -> Option<String> {
-        let file = register.file();
-        let (tree, built) = rule::tree::tree(&file);
-        let before = vec![0xa5; built.answer as usize];
-        let (want, want_tree) = match tree {
-            Some(tree) => (built, tree),
-            None => (Built::refused(22), before.clone()),
-        };
-        let cells = (rule::grid(&file) as usize).pow(3);
-        self.grow_scratch(cells);
-        self.tree = before;
-        let scratch = &mut self.scratch[..cells];
-        let got = build(self.file.slice(), scratch, &mut self.tree);
+        let (tree, built) = rule::tree::tree(&register.file());
+        let before = vec![BYTE; built.answer as usize];
+        let words = register.scratch_words() as usize;
+        let short = self.unlike_built(build, words - 1, (Built::refused(8), &before));
+        short.or_else(|| {
+            let want = match &tree {
+                Some(tree) => (built, &tree[..]),
+                None => (Built::refused(22), &before[..]),
+            };
+            self.unlike_built(build, words, want)
+        })
+    }
+
+    /// What a build of the edited file in so many words answers or leaves that is not this, in an output as long as this.
+    fn unlike_built(
+        &mut self,
+        build: Build,
+        words: usize,
+        (want, want_tree): (Built, &[u8]),
+    ) -> Option<String> {
+        self.words.fill(0, repeat_n(WORD, words));
+        self.tree.fill(0, repeat_n(BYTE, want_tree.len()));
+        let (scratch, out) = (self.words.slice_mut(), self.tree.slice_mut());
+        let got = build(self.file.slice(), scratch, out);
         if got != want {
-            return Some(format!("build answers {got}, the register's is {want}"));
+            return Some(format!(
+                "build answers {got} in {words} words, the register's is {want}"
+            ));
         }
-        unlike("byte of the tree", &self.tree, &want_tree)
+        let changed = |&word: &u32| want.answer == 8 && word != WORD;
+        let scratched = self.words.slice().iter().any(changed);
+        unlike("byte of the tree", self.tree.slice(), want_tree)
+            .or_else(|| self.words.broken("scratch"))
+            .or_else(|| self.tree.broken("tree"))
+            .or_else(|| scratched.then(|| format!("scratch changed, answer {want}")))
     }
 }
 
@@ -507,7 +530,7 @@ pub(crate) fn check(report: &mut Report) {
 mod tests {
     use super::plain::{plain_edit, Fault, FAULTS};
     use super::*;
-    use crate::build::plain::LARGE;
+    use crate::build::plain::{LARGE, SHORT};
     use std::collections::{BTreeMap, BTreeSet};
 
     /// Cases of each kind that a test looks at.
@@ -816,7 +839,7 @@ mod tests {
             assert!(compare(library, seed, kind, FEW).mismatches > 10);
         }
         let (seed, kind) = history_kind("over the edge");
-        for large in LARGE {
+        for large in LARGE.into_iter().chain(SHORT) {
             assert!(compare(built(large), seed, kind, 200).mismatches > 10);
         }
     }

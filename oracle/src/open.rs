@@ -61,14 +61,20 @@ pub(crate) fn journal_word(junk: u32, at: usize) -> u32 {
 
 /// Lays out what open, fold and build are all lent in a case; `want_out` takes the output as it is before the call.
 pub(crate) fn lay(case: &Case, lent: &mut Buffers, want_out: &mut Vec<u8>) {
-    let (junk, shift) = (case.junk, case.junk as usize % 16);
-    lent.file.fill(shift, case.file.iter().copied());
-    lent.scratch
-        .fill(0, (0..case.scratch).map(|at| scratch_word(junk, at)));
-    lent.out
-        .fill(shift / 2, (0..case.out).map(|at| out_byte(junk, at)));
+    lent.file
+        .fill(case.junk as usize % 16, case.file.iter().copied());
+    lay_words(case, case.scratch, lent);
     want_out.clear();
     want_out.extend_from_slice(lent.out.slice());
+}
+
+/// Lays out so many words of scratch, and the output of a case, as they are before the call.
+pub(crate) fn lay_words(case: &Case, words: usize, lent: &mut Buffers) {
+    let (junk, shift) = (case.junk, case.junk as usize % 16);
+    lent.scratch
+        .fill(0, (0..words).map(|at| scratch_word(junk, at)));
+    lent.out
+        .fill(shift / 2, (0..case.out).map(|at| out_byte(junk, at)));
 }
 
 /// What differs after a call of this answer in what open, fold and build are all lent, and round it.

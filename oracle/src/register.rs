@@ -130,6 +130,12 @@ impl Register {
         self.stack.len() as u64
     }
 
+    /// The words of scratch that build needs for its file, which is in working form: two for each 32 cells of the grid, rounded up.
+    pub(crate) fn scratch_words(&self) -> u64 {
+        let cells = u64::from(self.grid).pow(3);
+        2 * cells.div_ceil(32)
+    }
+
     /// The opened header with n its cells, then its records in working form.
     pub(crate) fn file(&self) -> Vec<u8> {
         let mut file = self.header.clone();
@@ -182,6 +188,20 @@ mod tests {
         let mut want = point_file(Header::cube(2, 2.0), &[first, second]);
         want[56..64].fill(0xee);
         assert_eq!((register.file(), register.height()), (want, 0));
+    }
+
+    /// A file that was not in working form is now, and needs as much as any other that is.
+    #[test]
+    fn its_words() {
+        let words = |g: u8| {
+            let mut file = opened();
+            file[8] = g;
+            Register::new(&file, 200, 10).scratch_words()
+        };
+        assert_eq!([2, 3, 4, 5, 40].map(words), [2, 2, 4, 8, 4_000]);
+        let register = Register::new(&opened(), 200, 10);
+        let needed = crate::rule::tree::scratch_words(&register.file());
+        assert_eq!(register.scratch_words(), needed);
     }
 
     /// A cell's record twice is no opened file's.

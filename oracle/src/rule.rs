@@ -147,14 +147,22 @@ pub(crate) fn names_one_twice(file: &[u8]) -> bool {
     (cells.len() as u64) < count(file)
 }
 
+/// The words of scratch that a call needs for a file that `judge` lets pass.
+type Needed = fn(&[u8]) -> u64;
+
+/// One word for each cell: what open and fold need for every file.
+fn word_per_cell(file: &[u8]) -> u64 {
+    grid(file).pow(3)
+}
+
 /// The first of the causes 1 to 7 and 8, or none: what open, fold and build have in common.
-fn judge_lent(file: &[u8], scratch_words: u64) -> Option<u64> {
-    judge(file).or_else(|| (scratch_words < grid(file).pow(3)).then_some(8))
+fn judge_lent(file: &[u8], scratch_words: u64, needed: Needed) -> Option<u64> {
+    judge(file).or_else(|| (scratch_words < needed(file)).then_some(8))
 }
 
 /// The first of the causes 1 to 7, 8 and 21, or none: what open and build have in common.
-fn judge_distinct(file: &[u8], scratch_words: u64) -> Option<u64> {
-    judge_lent(file, scratch_words).or_else(|| names_one_twice(file).then_some(21))
+fn judge_distinct(file: &[u8], scratch_words: u64, needed: Needed) -> Option<u64> {
+    judge_lent(file, scratch_words, needed).or_else(|| names_one_twice(file).then_some(21))
 }
 
 /// The cell number and the masses of each record of a file that `judge` lets pass, by cell; records of one cell in file order.
@@ -185,7 +193,7 @@ fn working_form(header: &[u8], cells: impl ExactSizeIterator<Item = (u64, [u32; 
 
 /// Open: 1 to 7, 8, 21, 9, 13; then the working form stands in `out`, and word 0 of the journal is 0.
 pub(crate) fn open(file: &[u8], scratch_words: u64, out: &mut [u8], journal: &mut [u32]) -> u64 {
-    if let Some(cause) = judge_distinct(file, scratch_words) {
+    if let Some(cause) = judge_distinct(file, scratch_words, word_per_cell) {
         return cause;
     }
     let opened = working_form(file, cells(file).into_iter());
@@ -208,7 +216,7 @@ pub(crate) fn folded(file: &[u8]) -> Vec<u8> {
 
 /// Fold: 1 to 7, 8, 9; then the working form stands in `out`.
 pub(crate) fn fold(file: &[u8], scratch_words: u64, out: &mut [u8]) -> u64 {
-    if let Some(cause) = judge_lent(file, scratch_words) {
+    if let Some(cause) = judge_lent(file, scratch_words, word_per_cell) {
         return cause;
     }
     let folded = folded(file);
@@ -404,6 +412,9 @@ mod tests {
         refused(&three, 0, 0, 0, 8);
         refused(&with(three.clone(), 84, &[2]), 0, 0, 0, 6);
         refused(&three[..100], 8, 96, 1, 4);
+        let in_order = file(&[AT_2, AGAIN_AT_5]);
+        assert!(working(&in_order));
+        refused(&in_order, 7, 96, 1, 8);
     }
 
     /// Any two records, beside each other or not, with the same masses or not; more of them than cells.
@@ -433,6 +444,7 @@ mod tests {
         let want = file(&[AT_2, AGAIN_AT_5]);
         let spare = [want.clone(), vec![0xa5; 3]].concat();
         assert_eq!(folded(&three, 8, 99), (96, spare));
+        assert_eq!(folded(&want, 7, 96), (8, vec![0xa5; 96]));
         assert_eq!(folded(&want, 8, 96), (96, want));
         assert_eq!(folded(&three, 8, 95), (9, vec![0xa5; 95]));
         assert_eq!(folded(&three, 7, 95), (8, vec![0xa5; 95]));

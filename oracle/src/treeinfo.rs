@@ -136,6 +136,11 @@ fn every_fourth(records: usize) -> Vec<u8> {
     of_cells(16, (0..4096).step_by(4).take(records))
 }
 
+/// The file with a pad in its first record.
+fn padded(file: Vec<u8>) -> Vec<u8> {
+    with(file, 70, &[1])
+}
+
 /// The most of these records whose tree has room.
 fn as_many_as_fit() -> usize {
     let length = |records: usize| rule::tree::tree(&every_fourth(records)).1.answer;
@@ -208,7 +213,6 @@ fn fixed() -> Vec<Input> {
             with(plane(), 88, &f32::NAN.to_le_bytes()),
             "refused 7",
         ),
-        said("g 17, three records", of_cells(17, 0..3), "refused 8"),
         said("a cell twice", twice(3), "refused 21"),
         said("g 17, a cell twice", twice(17), "refused 8"),
         said(
@@ -217,7 +221,8 @@ fn fixed() -> Vec<Input> {
             "refused 21",
         ),
         said("two greatest masses", two_greatest(2), "refused 22"),
-        said("g 17, two greatest masses", two_greatest(17), "refused 8"),
+        said("g 17, two greatest masses", two_greatest(17), "refused 22"),
+        said("g 41, two greatest masses", two_greatest(41), "refused 8"),
         said("a plane, two greatest", heavy(plane()), "refused 22"),
         said("a cell twice, two greatest", heavy(twice(3)), "refused 21"),
         said(
@@ -247,6 +252,51 @@ fn fixed() -> Vec<Input> {
     ]
 }
 
+/// What 4,096 words are enough for: grids up to 16, in working form up to 40.
+fn grids() -> Vec<Input> {
+    let (one, two) = ("nodes 1 order 1 bytes 148", "nodes 1 order 2 bytes 152");
+    let (none, short) = ("nodes 1 order 0 bytes 144", "refused 8");
+    let last = |g: u64| of_cells(g as u32, g.pow(3) - 1..g.pow(3));
+    let descending = |g: u32| of_cells(g, [9, 3].into_iter());
+    let counting_one = |g: u32| with(descending(g), 12, &[1]);
+    let inputs = [
+        ("g 16, a pad", padded(last(16)), one),
+        ("g 16, descending", descending(16), two),
+        ("g 17, the last cell", last(17), one),
+        ("g 17, no record", of_cells(17, 0..0), none),
+        ("g 17, a pad", padded(last(17)), short),
+        ("g 17, descending", descending(17), short),
+        ("g 17, one of two counts", counting_one(17), one),
+        (
+            "g 32, cells 0 and 32,767",
+            of_cells(32, [0, 32_767].into_iter()),
+            two,
+        ),
+        ("g 40, the last cell", last(40), one),
+        ("g 40, no record", of_cells(40, 0..0), none),
+        ("g 40, a pad", padded(last(40)), short),
+        ("g 40, descending", descending(40), short),
+        ("g 40, one of two counts", counting_one(40), one),
+        ("g 41, the last cell", last(41), short),
+        ("g 41, no record", of_cells(41, 0..0), short),
+        ("g 41, a pad", padded(last(41)), short),
+        ("g 256, no record", of_cells(256, 0..0), short),
+    ];
+    let inputs = inputs.into_iter().map(|(name, bytes, line)| Input {
+        name,
+        bytes,
+        line: Some(line),
+    });
+    let sparse = |g: u32| of_cells(g, (0..MOST as u64).map(|number| number * 61));
+    let by_rule = [("g 40, n 1,020", sparse(40)), ("g 41, n 1,020", sparse(41))];
+    let by_rule = by_rule.into_iter().map(|(name, bytes)| Input {
+        name,
+        bytes,
+        line: None,
+    });
+    inputs.chain(by_rule).collect()
+}
+
 /// Files of every kind that build is tried with, the large grids left out, that are read whole.
 fn small() -> Vec<Input> {
     let kinds = KINDS.iter().filter(|kind| kind.name != "large grids");
@@ -274,7 +324,11 @@ pub(crate) fn check(report: &mut Report) {
             return report.run("treeinfo", || missing);
         }
     };
-    for (name, inputs) in [("fixed inputs", fixed()), ("small files", small())] {
+    for (name, inputs) in [
+        ("fixed inputs", fixed()),
+        ("grids", grids()),
+        ("small files", small()),
+    ] {
         report.run(&format!("treeinfo: {name}"), || {
             compare(|input| printed(&program, input), &inputs).found()
         });
@@ -286,18 +340,22 @@ mod tests {
     use super::*;
     use std::collections::BTreeSet;
 
-    /// The names of the fixed inputs on which a program that prints this is found to be wrong.
-    fn found(printed: impl Fn(&[u8]) -> String) -> Vec<&'static str> {
+    /// The names of inputs on which a program that prints this is found to be wrong.
+    fn found_in(inputs: &[Input], printed: impl Fn(&[u8]) -> String) -> Vec<&'static str> {
         let of = |input: &Input| wrong(Ok(printed(&input.bytes).into_bytes()), input);
-        let inputs = fixed();
         let wrong = inputs.iter().filter(|input| of(input).is_some());
         wrong.map(|input| input.name).collect()
+    }
+
+    /// Of the fixed inputs.
+    fn found(printed: impl Fn(&[u8]) -> String) -> Vec<&'static str> {
+        found_in(&fixed(), printed)
     }
 
     #[test]
     fn the_rule_agrees_with_itself() {
         let by_rule = |input: &[u8]| Ok(line(input).into_bytes());
-        for (inputs, cases) in [(fixed(), 34), (small(), SMALL as u64)] {
+        for (inputs, cases) in [(fixed(), 34), (grids(), 19), (small(), SMALL as u64)] {
             let search = compare(by_rule, &inputs);
             assert_eq!((search.cases.apart(), search.mismatches), ((0, cases), 0));
         }
@@ -345,14 +403,10 @@ mod tests {
         assert_eq!(found(|input| line(input) + " ").len(), all);
         assert_eq!(
             found(|input| line(input).replace("refused 8", "refused 9")),
-            [
-                "g 17, three records",
-                "g 17, a cell twice",
-                "g 17, two greatest masses"
-            ]
+            ["g 17, a cell twice", "g 41, two greatest masses"]
         );
         let as_nine = |input: &[u8]| line(input).replace("refused 22", "refused 9");
-        assert_eq!(found(as_nine).len(), 3);
+        assert_eq!(found(as_nine).len(), 4);
         let more = |input: &[u8]| match input.len() {
             16_400 => "nodes 1 order 1 bytes 148\n".to_owned(),
             _ => line(input),
@@ -360,6 +414,57 @@ mod tests {
         assert_eq!(found(more), ["n 1,021"]);
         let why = || Err("ends with exit status: 1".to_owned());
         assert!(fixed().iter().all(|input| wrong(why(), input).is_some()));
+    }
+
+    /// A word for each cell asked of every file, pairs of words of every file, or more or less lent.
+    #[test]
+    fn faults_of_scratch_are_found() {
+        let in_grids = |printed: &dyn Fn(&[u8]) -> String| found_in(&grids(), printed);
+        let by = |words: fn(u64) -> u64| {
+            move |input: &[u8]| match words(rule::grid(input)) > SCRATCH {
+                true => "refused 8\n".to_owned(),
+                false => line(&rule::folded(input)),
+            }
+        };
+        assert_eq!(in_grids(&line), [""; 0]);
+        assert_eq!(
+            in_grids(&by(|g| g.pow(3))),
+            [
+                "g 17, the last cell",
+                "g 17, no record",
+                "g 17, one of two counts",
+                "g 32, cells 0 and 32,767",
+                "g 40, the last cell",
+                "g 40, no record",
+                "g 40, one of two counts",
+                "g 40, n 1,020",
+            ]
+        );
+        assert_eq!(
+            in_grids(&by(rule::tree::pairs_of_words)),
+            [
+                "g 17, a pad",
+                "g 17, descending",
+                "g 40, a pad",
+                "g 40, descending"
+            ]
+        );
+        let lent = |words: u64| {
+            move |input: &[u8]| match rule::tree::build(input, words, &mut [0; OUT]).answer {
+                8 => "refused 8\n".to_owned(),
+                _ => line(input).replace("refused 8", "refused 9"),
+            }
+        };
+        let in_40 = [
+            "g 40, the last cell",
+            "g 40, no record",
+            "g 40, one of two counts",
+        ];
+        let less = in_grids(&lent(3_999));
+        assert!(in_40.iter().all(|name| less.contains(name)), "{less:?}");
+        let in_41 = ["g 41, the last cell", "g 41, no record"];
+        let more = in_grids(&lent(4_308));
+        assert!(in_41.iter().all(|name| more.contains(name)), "{more:?}");
     }
 
     #[test]

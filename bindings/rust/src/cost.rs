@@ -1,4 +1,4 @@
-use crate::points::{HEADER, RECORD};
+use crate::points::{small_bytes, HEADER, RECORD};
 use crate::{cells, ffi, Refusal};
 
 /// What the most costly model of a grid takes, so that room can be reserved before there is a file.
@@ -11,6 +11,7 @@ use crate::{cells, ffi, Refusal};
 ///
 /// let cost = Cost::of(24)?;
 /// assert_eq!((cost.nodes, cost.bytes, cost.file_bytes), (5_119, 464_880, 221_248));
+/// assert_eq!(cost.scratch_bytes, 3_456);
 /// let tree = Model::costliest(24)?.tree()?;
 /// assert_eq!((tree.node_count(), tree.as_bytes().len()), (cost.nodes, cost.bytes));
 /// assert_eq!(Cost::of(257), Err(Refusal::GridOutOfRange));
@@ -24,6 +25,9 @@ pub struct Cost {
     pub bytes: usize,
     /// The length of its point file (RYM1): a record for every cell, so that no file of the grid is longer in working form.
     pub file_bytes: usize,
+    /// How much scratch memory building it takes, and building any other file of the grid that is in working form: two words of 32 bits
+    /// for every 32 cells, 8 × ceil(grid³ / 32) bytes. A file that is not in working form takes a word for each cell.
+    pub scratch_bytes: usize,
 }
 
 impl Cost {
@@ -37,6 +41,7 @@ impl Cost {
             nodes,
             bytes,
             file_bytes: HEADER + RECORD * cells(grid),
+            scratch_bytes: small_bytes(grid),
         })
     }
 }
@@ -70,6 +75,7 @@ mod tests {
             assert_eq!(cost.nodes, nodes(Cells::whole(grid), &mut known), "{grid}");
             assert_eq!(cost.bytes, 64 + 80 * cost.nodes + 4 * cells(grid), "{grid}");
             assert_eq!(cost.file_bytes, 64 + 16 * cells(grid), "{grid}");
+            assert_eq!(cost.scratch_bytes, 8 * cells(grid).div_ceil(32), "{grid}");
         }
     }
 }

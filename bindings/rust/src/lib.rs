@@ -15,6 +15,9 @@ mod model;
 mod model_file;
 mod points;
 mod refusal;
+#[cfg(test)]
+#[path = "../tests/common/rng.rs"]
+mod rng;
 mod save;
 pub mod shapes;
 pub mod text;

@@ -1,4 +1,4 @@
-use crate::points::{grid_of, records_of, scratch, HEADER, RECORD};
+use crate::points::{grid_of, records_of, scratch, small_bytes, HEADER, RECORD};
 use crate::twice::dropped;
 use crate::{
     cells, ffi, floats, model_file, Cost, Dropped, Edit, Header, Kernel, ModelFile, ModelFileError,
@@ -641,6 +641,21 @@ impl Model {
     /// 22 where a float of the tree is too large, with the first one in preorder. The model is as it was: it can be edited, and saved.
     pub fn tree(&self) -> Result<Tree, OpenError> {
         Tree::build(self.as_bytes())
+    }
+
+    /// How much scratch memory building the [`tree`](Model::tree) takes, in bytes, besides the model and the tree: two words of 32 bits
+    /// for every 32 cells, 8 × ceil(grid³ / 32), whatever the points. [`Cost`] says it before there is a model.
+    ///
+    /// ```
+    /// use mascon::{Cost, Model};
+    ///
+    /// let model = Model::costliest(24)?;
+    /// assert_eq!(model.scratch_bytes(), 3_456);
+    /// assert_eq!(Cost::of(256)?.scratch_bytes, 4 << 20);
+    /// # Ok::<(), mascon::Refusal>(())
+    /// ```
+    pub fn scratch_bytes(&self) -> usize {
+        small_bytes(self.grid())
     }
 
     /// The float of the model's tree that is greatest in magnitude, sums in kilograms and places in metres alike, the first of equal

@@ -198,24 +198,37 @@ pub(crate) fn records_of(file: &[u8]) -> usize {
 
 /// Causes 1 to 7 and 21 of a file.
 pub(crate) fn judge(file: &[u8]) -> Result<(), OpenError> {
-    judged(file, |scratch| ffi::open(file, scratch, &mut [], &mut []))
+    let opened = ffi::open(file, &mut scratch(file), &mut [], &mut []);
+    judged(file, opened)
 }
 
-/// The cause by which a call refuses a file. With no byte of output it answers 9 exactly where no other one holds.
-pub(crate) fn judged<T>(
-    file: &[u8],
-    call: impl FnOnce(&mut [u32]) -> Result<T, Refusal>,
-) -> Result<(), OpenError> {
-    match call(&mut scratch(file)) {
+/// The cause by which a call refuses a file. Lent no byte of output, it answers 9 exactly where no other one holds.
+pub(crate) fn judged<T>(file: &[u8], answer: Result<T, Refusal>) -> Result<(), OpenError> {
+    match answer {
         Err(Refusal::OutputTooShort) => Ok(()),
         Err(refusal) => Err(OpenError::of(refusal, file)),
         Ok(_) => unreachable!("what is written has a header, which takes 64 bytes of output"),
     }
 }
 
-/// Scratch for a file: a word for each cell.
+/// Scratch for opening or folding a file, and for building one that is not in working form: a word for each cell.
 pub(crate) fn scratch(file: &[u8]) -> Vec<u32> {
     vec![0; grid_of(file).map_or(0, cells)]
+}
+
+/// Scratch for building a file that is in working form.
+pub(crate) fn small_scratch(file: &[u8]) -> Vec<u32> {
+    vec![0; grid_of(file).map_or(0, small_words)]
+}
+
+/// How many words that is at a grid: for every 32 cells one of marks and one total.
+fn small_words(grid: u32) -> usize {
+    2 * cells(grid).div_ceil(32)
+}
+
+/// The same in bytes.
+pub(crate) fn small_bytes(grid: u32) -> usize {
+    size_of::<u32>() * small_words(grid)
 }
 
 /// A point file that was judged, its records as they stand: their order is kept.

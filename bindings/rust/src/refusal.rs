@@ -85,7 +85,7 @@ refusals! {
         "give masses that binary32 can hold, below 3.4e38 in magnitude; in a file, `mascon check` names the record";
     /// This crate lends enough, so that it is not seen.
     ScratchTooShort = 8, "scratch too short",
-        "lend grid³ words, or one float for each triangle; this crate does so by itself";
+        "lend, to build a file in working form, 2 × ceil(grid³ / 32) words (`Cost::of` has the bytes); to build any other, to open or to fold, grid³ words; to fill or for a point, one float for each triangle; this crate does so by itself";
     /// This crate lends enough, so that it is not seen.
     OutputTooShort = 9, "output too short",
         "lend a longer output, for a tree what `Cost::of` answers for its grid; this crate does so by itself";

@@ -1,6 +1,8 @@
 use crate::check::{check_tree, Fault};
-use crate::points::{float_at, floats_at, grid_of, judged, scratch, word_at, HEADER};
-use crate::{ffi, Cost, OpenError};
+use crate::points::{
+    float_at, floats_at, grid_of, judged, scratch, small_scratch, word_at, HEADER,
+};
+use crate::{ffi, Cost, OpenError, Refusal};
 use std::io;
 use std::path::Path;
 
@@ -94,15 +96,30 @@ fn output(file: &[u8]) -> Vec<u8> {
     vec![0; cost.map_or(0, |cost| cost.bytes)]
 }
 
+/// Makes a call that builds a file, with as little scratch as the file takes: that of a file in working form and, where the library says
+/// that this is too short, a word for each cell. It says so before it touches a word.
+fn with_scratch<T>(
+    file: &[u8],
+    mut call: impl FnMut(&mut [u32]) -> Result<T, Refusal>,
+) -> Result<T, Refusal> {
+    let answer = call(&mut small_scratch(file));
+    match answer {
+        Err(Refusal::ScratchTooShort) => call(&mut scratch(file)),
+        answer => answer,
+    }
+}
+
 impl Tree {
     /// Builds the tree of a point file, in working form or not. The order names points by their place in that file.
+    ///
+    /// In working form it takes little scratch, what [`Cost`] says for the grid; any other file takes a word for each cell.
     ///
     /// # Errors
     /// 1 to 7; 21, with the records; 22, with the float that is too large.
     pub fn build(file: &[u8]) -> Result<Tree, OpenError> {
         let mut bytes = output(file);
-        let (length, nodes, order) = ffi::build(file, &mut scratch(file), &mut bytes)
-            .map_err(|refusal| OpenError::of(refusal, file))?;
+        let built = with_scratch(file, |scratch| ffi::build(file, scratch, &mut bytes));
+        let (length, nodes, order) = built.map_err(|refusal| OpenError::of(refusal, file))?;
         bytes.truncate(length);
         bytes.shrink_to_fit();
         Ok(Tree {
@@ -117,7 +134,8 @@ impl Tree {
     /// # Errors
     /// Those of build.
     pub fn judge(file: &[u8]) -> Result<(), OpenError> {
-        judged(file, |scratch| ffi::build(file, scratch, &mut []))
+        let built = with_scratch(file, |scratch| ffi::build(file, scratch, &mut []));
+        judged(file, built)
     }
 
     /// Takes up a tree file, after judging header, boxes, links, counts, leaf ranges and order, and that every float is finite.
@@ -237,5 +255,70 @@ impl Tree {
     pub fn save(&self, path: impl AsRef<Path>) -> io::Result<()> {
         crate::save::spare(path.as_ref(), false)?;
         crate::write_file(path, &self.bytes)
+    }
+}
+
+#[cfg(test)]
+mod tests {
+    use super::*;
+    use crate::{shapes, Model};
+
+    /// How many words are lent while a file is built, call by call.
+    fn lent(file: &[u8]) -> Vec<usize> {
+        let mut lengths = Vec::new();
+        let mut out = output(file);
+        let _ = with_scratch(file, |scratch| {
+            lengths.push(scratch.len());
+            ffi::build(file, scratch, &mut out)
+        });
+        lengths
+    }
+
+    /// A model is built with the small size; what is not in working form, with a word for each cell as well; what is refused by what comes
+    /// before 8, once.
+    #[test]
+    fn a_file_is_lent_what_it_takes() {
+        for (grid, small, whole) in [(2, 2, 8), (3, 2, 27), (40, 4_000, 64_000)] {
+            let mut model = Model::open(&shapes::empty_file(grid, [0.0; 3], [1.0; 3])).unwrap();
+            assert_eq!(lent(model.as_bytes()), [small]);
+            model.put(0, 1, 0, 1.0, 1.0).unwrap();
+            model.put(1, 1, 1, 1.0, 1.0).unwrap();
+            assert_eq!(lent(model.as_bytes()), [small]);
+            assert_eq!(4 * small, model.scratch_bytes());
+            let [header, first, second] = [0..64, 64..80, 80..96].map(|at| &model.as_bytes()[at]);
+            assert_eq!(lent(&[header, second, first].concat()), [small, whole]);
+            assert_eq!(lent(&[header, first, first].concat()), [small, whole]);
+            assert_eq!(lent(&[header, first, second, first].concat()), [small]);
+            let mut other = model.as_bytes().to_vec();
+            other[70] = 1;
+            assert_eq!(lent(&other), [small, whole]);
+            // An infinite mass.
+            other[79] = 0x7f;
+            assert_eq!(lent(&other), [small]);
+        }
+    }
+
+    /// At grid 1 the small size is the greater one, and enough for every file.
+    #[test]
+    fn at_grid_1_a_file_is_lent_two_words() {
+        let mut model = Model::open(&shapes::empty_file(1, [0.0; 3], [1.0; 3])).unwrap();
+        assert_eq!(lent(model.as_bytes()), [2]);
+        model.put(0, 0, 0, 1.0, 1.0).unwrap();
+        assert_eq!(lent(model.as_bytes()), [2]);
+        let mut other = model.as_bytes().to_vec();
+        other[70] = 1;
+        assert_eq!(lent(&other), [2]);
+        other[12] = 2;
+        other.extend([0; 16]);
+        assert_eq!(lent(&other), [2]);
+    }
+
+    /// A file without a grid is refused with nothing lent.
+    #[test]
+    fn a_file_without_a_grid_is_lent_nothing() {
+        let mut file = shapes::empty_file(8, [0.0; 3], [1.0; 3]);
+        assert_eq!(lent(&file[..63]), [0]);
+        file[9] = 2;
+        assert_eq!(lent(&file), [0]);
     }
 }

@@ -47,11 +47,13 @@ fn known_numbers() {
         assert_eq!(cost.nodes, nodes, "{grid}");
         assert_eq!(cost.bytes, 64 + 80 * nodes + 4 * cells(grid), "{grid}");
         assert_eq!(cost.file_bytes, 64 + 16 * cells(grid), "{grid}");
+        assert_eq!(cost.scratch_bytes, 8 * cells(grid).div_ceil(32), "{grid}");
     }
     let finest = Cost {
         nodes: 4_194_303,
         bytes: 402_653_168,
         file_bytes: 268_435_520,
+        scratch_bytes: 4_194_304,
     };
     assert_eq!(Cost::of(MAX_GRID), Ok(finest));
 }
@@ -233,10 +235,18 @@ fn files_without_a_grid() {
     }
 }
 
-/// The line of the program about a tree.
+/// The lines of the program about a tree and the scratch.
 fn at_most(cost: Cost) -> String {
-    let Cost { nodes, bytes, .. } = cost;
-    format!("tree            at most {nodes} nodes, {bytes} bytes at this grid\n")
+    let Cost {
+        nodes,
+        bytes,
+        scratch_bytes,
+        ..
+    } = cost;
+    format!(
+        "tree            at most {nodes} nodes, {bytes} bytes at this grid\n\
+         building        takes {scratch_bytes} bytes of scratch"
+    )
 }
 
 #[test]
@@ -246,12 +256,14 @@ fn the_program_tells_the_numbers() {
         done(&folder, "costliest 8"),
         "grid            8 (512 cells)\n\
          tree            at most 127 nodes, 12272 bytes at this grid\n\
+         building        takes 128 bytes of scratch for a file in working form\n\
          point file      8256 bytes, with a point in every cell\n"
     );
     assert_eq!(
         done(&folder, "costliest 256"),
         "grid            256 (16777216 cells)\n\
          tree            at most 4194303 nodes, 402653168 bytes at this grid\n\
+         building        takes 4194304 bytes of scratch for a file in working form\n\
          point file      268435520 bytes, with a point in every cell\n"
     );
     for grid in [1, 2, 24, 213] {
@@ -270,7 +282,7 @@ fn the_program_writes_the_file() {
         done(&folder, "costliest 6 -o full"),
         format!(
             "full: 216 points in working form\n\
-             grid            6 (216 cells)\n{}\
+             grid            6 (216 cells)\n{} for a file in working form\n\
              point file      3520 bytes, with a point in every cell\n",
             at_most(cost)
         )
@@ -278,7 +290,7 @@ fn the_program_writes_the_file() {
     let read = |name: &str| fs::read(folder.file(name)).unwrap();
     assert_eq!(read("full"), full(6));
     assert!(done(&folder, "check full").contains("no fault"));
-    assert!(done(&folder, "info full").ends_with(&at_most(cost)));
+    assert!(done(&folder, "info full").ends_with(&(at_most(cost) + "\n")));
     assert!(done(&folder, "open full -o full").contains("as it was"));
     assert_eq!(
         done(&folder, "build full -o tree"),

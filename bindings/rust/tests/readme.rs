@@ -3,7 +3,7 @@
 mod common;
 
 use common::Folder;
-use mascon::{shapes, text, Model, Refusal, Tree, Triangle};
+use mascon::{shapes, text, Cost, Model, Refusal, Tree, Triangle};
 
 #[test]
 fn refusals_as_in_the_readme() {
@@ -16,6 +16,29 @@ fn refusals_as_in_the_readme() {
             refusal.words(),
             refusal.advice()
         );
+        assert!(readme.lines().any(|line| line == row), "{row}");
+    }
+}
+
+/// What building takes, in mebibytes and bytes, in working form and not.
+#[test]
+fn scratch_as_in_the_readme() {
+    let readme = include_str!("../README.md");
+    let with_commas = |bytes: usize| {
+        let (millions, thousands, ones) = (bytes / 1_000_000, bytes / 1_000 % 1_000, bytes % 1_000);
+        format!("{millions},{thousands:03},{ones:03} bytes")
+    };
+    for (grid, small, whole) in [(192_u32, "1.7", "27"), (256, "4", "64")] {
+        let sizes = [
+            Cost::of(grid).unwrap().scratch_bytes,
+            4 * (grid as usize).pow(3),
+        ];
+        for (bytes, words) in sizes.into_iter().zip([small, whole]) {
+            let mebibytes = bytes as f64 / f64::from(1 << 20);
+            assert!((mebibytes - words.parse::<f64>().unwrap()).abs() < 0.05);
+        }
+        let [small_bytes, whole_bytes] = sizes.map(with_commas);
+        let row = format!("| {grid} | {small} MiB ({small_bytes}) | {whole} MiB ({whole_bytes}) |");
         assert!(readme.lines().any(|line| line == row), "{row}");
     }
 }

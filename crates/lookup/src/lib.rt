@@ -17,7 +17,7 @@ use points::records::point_at;
 use rym1::Cause;
 
 // The first n words become 0.
-fn clear(words: &mut [u32], n: usize)
+pub fn clear(words: &mut [u32], n: usize)
     requires { ⌜ n ≤ length (now words) ⌝ }
     ensures { λ _. ⌜ now (words .exit) ≡ splice (now (words .entry)) 0 (replicate n 0) ⌝ }
 {

@@ -21,8 +21,9 @@ use Rattle.rtm1.specs.Build.{treeLarge, fileTree}
 use Rattle.rtm1.proofs.Boxes.{whole-within}
 use Rattle.rtm1.proofs.Growth.{tree-leaf, tree-split}
 use Rattle.rtm1.proofs.Order.{order-length, nodes-exact, points-exact}
-use Rattle.sums.specs.Ready.{Ready}
-use Rattle.sums.proofs.Slots.{grid-few}
+use Rattle.runs.specs.declared.Form.{Form}
+use Rattle.runs.specs.Runs.{Ready}
+use Rattle.runs.proofs.Runs.{grid-few}
 use Rattle.mascon_tree.specs.declared.Next.{Next}
 use Rattle.mascon_tree.specs.declared.Judged.{Judged}
 use Rattle.mascon_tree.specs.declared.Judged.the-variants.{Fits, TooLarge}
@@ -47,7 +48,7 @@ module _ (look : ℕ → Slot) (g : ℕ) (b : Cells) where
 
 -- ---- the root
 
-module _ (words f : List ℕ) (g : ℕ) (b : Cells) (ready : Ready words f g) (e : b ≡ whole g) where
+module _ (form : Form) (words f : List ℕ) (g : ℕ) (b : Cells) (ready : Ready form words f g) (e : b ≡ whole g) where
   -- the box is the whole grid, its tree the file's
   pub root-within : Within g b
   root-within = rw (e, ready .gridded) (whole-within (grid f) (accepted f (ready .accepted) .grid-pos))

@@ -21,7 +21,10 @@ use Rattle.rtm1.specs.declared.Frame.{Frame}
 use Rattle.rtm1.specs.Node.{frameOf, nodesFloats, someLarge, nodesBytes}
 use Rattle.rtm1.specs.Build.{headerWords, treeBytes, treeLength, treeLarge, fileTree, output, sourceCause, buildCause, build, answerOf, nodesOf, orderOf, told}
 use Rattle.rtm1.proofs.Bytes.{header-long, length-nodes}
-use Rattle.source.specs.Source.{Sourced}
+use Rattle.runs.specs.declared.Form.{Form}
+use Rattle.source.specs.declared.Source.{Source}
+use Rattle.source.specs.declared.Source.the-variants as sources
+use Rattle.source.specs.Source.{causeOf, Sourced}
 use Rattle.mascon_tree.specs.declared.Next.{Next}
 use Rattle.mascon_tree.specs.declared.Judged.{Judged}
 use Rattle.mascon_tree.specs.declared.Judged.the-variants.{Fits, TooLarge}
@@ -126,11 +129,14 @@ module _ (f out : List ℕ) (small : treeLarge f (fileTree f) ≡ false) (n k : 
 
 -- ---- the whole call, s and s′ the words of scratch before and after
 
-module _ (f s out s′ : List ℕ) (cause : Cause) (read : Sourced f s cause s′) where
-  pub way-refused : 0 < number cause → (told (Refused cause) out ≡ build f (length s) out) × (answerOf (Refused cause) ≤ 8 → s′ ≡ s)
-  unfolding told answerOf nodesOf orderOf
-  way-refused h =
-      (ap (λ (n : ℕ). outcome n (output 0 0 out)) (read .cause) ∙ build-source f (length s) out (rw (read .cause) at h), read .kept h)
+module _ (f s out s′ : List ℕ) (source : Source) (read : Sourced f s source s′) where
+  pub way-refused : (cause : Cause) → source ≡ sources.Refused cause → (told (Refused cause) out ≡ build f (length s) out) × (answerOf (Refused cause) ≤ 8 → s′ ≡ s)
+  unfolding told answerOf nodesOf orderOf causeOf
+  way-refused cause e =
+      let is : number cause ≡ sourceCause f (length s) = sym (ap causeOf e) ∙ read .cause in
+      (ap (λ (n : ℕ). outcome n (output 0 0 out)) is ∙ build-source f (length s) out (rw is at (read .some cause e)), read .kept cause e)
 
-  pub way-built : number cause ≡ 0 → (out′ : List ℕ) (answer : Built) → Building f out answer out′ → (told answer out′ ≡ build f (length s) out) × (answerOf answer ≤ 8 → s′ ≡ s)
-  way-built none out′ answer b = (b .is (length s) (sym (read .cause) ∙ none), λ low. absurd (let p = b .past in omega arith))
+  pub way-built : (form : Form) → source ≡ sources.Read form → (out′ : List ℕ) (answer : Built) → Building f out answer out′
+      → (told answer out′ ≡ build f (length s) out) × (answerOf answer ≤ 8 → s′ ≡ s)
+  unfolding causeOf
+  way-built form e out′ answer b = (b .is (length s) (sym (read .cause) ∙ ap causeOf e), λ low. absurd (let p = b .past in omega arith))

@@ -1,18 +1,16 @@
 -- Demand 3: any list of puts, removes and undos, from any accepted open. specs/Demand.antt is the statement. Assumes nothing.
 use Prim.Native.Nat.{ℕ, _<_, _≤_}
 use mathlib.Core.Path.{_≡_, sym, _∙_, subst}
-use mathlib.Core.Bool.{true}
-use mathlib.Core.Logic.{_↔_}
 use mathlib.Core.Option.{some}
 use mathlib.Core.List.{List}
 use lib.ListN.{length, drop}
-use Rattle.rym1.specs.File.{grid, cube}
+use Rattle.rym1.specs.File.{grid}
 use Rattle.rym1.specs.Cells.{Masses}
 use Rattle.rym1.specs.Open.{Buffers, openCause, openFile}
 use Rattle.rym1.proofs.Changes.{Laid, laid-small, relaid}
 use Rattle.rtm1.specs.Build.{treeBytes, build}
 use Rattle.tree_laws.specs.Said.{OneLeaf}
-use Rattle.register.specs.Register.{Register, Call, start, after, cellAt, rank, headerOf, treeOf, treeTooLarge}
+use Rattle.register.specs.Register.{Register, Call, start, after, cellAt, rank, headerOf, treeOf}
 use Rattle.register.specs.Demand.{Demand, Carried, left}
 use Rattle.register.proofs.Plain.{file-of}
 use Rattle.register.proofs.Simulation.{working-is, height, builds}
@@ -20,15 +18,12 @@ use Rattle.register.proofs.Simulated.{Simulated, simulated}
 use Rattle.register.proofs.Built.{build-laid, distinct-laid, large-told, written-laid}
 use Rattle.register.proofs.Leaves.{one-leaf, point-laid}
 
--- two of the statement's fields, of a file, a register and a header that its header equals
+-- one of the statement's fields, of a file, a register and a header that its header equals
 abbrev Leaves : List ℕ → Register → List ℕ → Type 0
 Leaves f r h =
     (words : ℕ) (out : List ℕ) → 64 ≤ build f words out .answer
     → (x y z : ℕ) (m : Masses) → x < grid h → y < grid h → z < grid h → r .cells (cellAt (grid h) x y z) ≡ some m
     → Carried f (build f words out .left .out) (rank (r .cells) (cellAt (grid h) x y z)) x y z m
-
-abbrev TooLarge : List ℕ → Register → List ℕ → Type 0
-TooLarge f r h = (words : ℕ) (out : List ℕ) → cube (grid h) ≤ words → (build f words out .answer ≡ 22) ↔ (treeTooLarge r ≡ true)
 
 leaves-laid : (r : Register) (f : List ℕ) → Laid (r .header) (r .cells) f → Leaves f r (r .header)
 leaves-laid r f l words out done x y z m hx hy hz there =
@@ -58,7 +53,7 @@ from s r ks all =
       builds = builds (left s ks) r′ (all .rel);
       distinct = distinct-laid r′ f l;
       tree-is = λ words out. build-laid r′ f l words out;
-      too-large = subst (λ (h : List ℕ). TooLarge f r′ h) (all .header-is) (λ words out enough. rw (build-laid r′ f l words out) (large-told r′ words out enough));
+      too-large = λ words out enough. rw (build-laid r′ f l words out) (large-told r′ words out enough);
       tree-alone = λ rest words out. rw (file-of r′) (build-laid r′ _ (relaid (r′ .header) (r′ .cells) f l rest) words out);
       leaves = subst (λ (h : List ℕ). Leaves f r′ h) (all .header-is) (leaves-laid r′ f l);
     }

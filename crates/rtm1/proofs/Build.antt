@@ -1,5 +1,5 @@
 -- Where build answers a length, the tree's bytes stand in front of the output. Assumes nothing.
-use Prim.Native.Nat.{ℕ, _≤_}
+use Prim.Native.Nat.{ℕ, _*_, _≤_}
 use mathlib.Core.Path.{_≡_, refl, ap, _∙_, subst}
 use mathlib.Core.Bool.{Bool, true, false}
 use mathlib.Core.List.{List, _++_}
@@ -7,11 +7,21 @@ use native.Mathlib.Nat.{zero-add}
 use native.Mathlib.Omega.{arith}
 use lib.ListN.{length, drop}
 use lib.Dec.{ltb}
+use borrow.Author.Tests.{ne-eqb}
 use Rattle.rym1.specs.Bytes.{splice}
 use Rattle.rym1.specs.Causes.{when, first, Outcome, outcome, refuse}
-use Rattle.rym1.specs.File.{grid, points, cube, fileCause, repeated, repeatCause}
+use Rattle.rym1.specs.File.{grid, points, cube, groups, fileCause, workCause, repeated, repeatCause}
 use Rattle.rtm1.specs.Tree.{nodeCount, order}
-use Rattle.rtm1.specs.Build.{treeBytes, treeLength, treeLarge, fileTree, Output, output, sourceCause, buildCause, build}
+use Rattle.rtm1.specs.Build.{treeBytes, treeLength, treeLarge, fileTree, Output, output, scratchWords, sourceCause, buildCause, build}
+
+-- the scratch of a file in working form, and of any other
+pub scratch-marks : (f : List ℕ) → workCause f ≡ 0 → scratchWords f ≡ 2 * groups (cube (grid f))
+unfolding scratchWords
+scratch-marks f works = rw works
+
+pub scratch-cells : (f : List ℕ) → (workCause f ≡ 0 → ⊥) → scratchWords f ≡ cube (grid f)
+unfolding scratchWords
+scratch-cells f other = rw (ne-eqb (workCause f) 0 other)
 
 -- the causes behind 21: 22 and 9
 abbrev pub late : Bool → Bool → ℕ
@@ -55,21 +65,21 @@ module _ (f : List ℕ) (words : ℕ) (out : List ℕ) (ok : fileCause f ≡ 0) 
   rest = late (treeLarge f (fileTree f)) (ltb (length out) (treeLength (fileTree f)))
 
   -- what is left of build once 1 to 7 are passed
-  pub build-passed : build f words out ≡ refuse (first (first (when (ltb words (cube (grid f))) 8) (repeatCause f)) rest) (output 0 0 out) done
+  pub build-passed : build f words out ≡ refuse (first (first (when (ltb words (scratchWords f)) 8) (repeatCause f)) rest) (output 0 0 out) done
   unfolding build buildCause sourceCause first
-  build-passed = λ i. refuse (first (first (ok i) (first (when (ltb words (cube (grid f))) 8) (repeatCause f))) rest) (output 0 0 out) done
+  build-passed = λ i. refuse (first (first (ok i) (first (when (ltb words (scratchWords f)) 8) (repeatCause f))) rest) (output 0 0 out) done
 
   -- and 21
-  pub build-is : repeatCause f ≡ 0 → build f words out ≡ refuse (first (when (ltb words (cube (grid f))) 8) rest) (output 0 0 out) done
+  pub build-is : repeatCause f ≡ 0 → build f words out ≡ refuse (first (when (ltb words (scratchWords f)) 8) rest) (output 0 0 out) done
   build-is once =
-      let short = ltb words (cube (grid f)) in
+      let short = ltb words (scratchWords f) in
       build-passed ∙ (λ i. refuse (first (first (when short 8) (once i)) rest) (output 0 0 out) done) ∙ ap (λ (k : ℕ). refuse k (output 0 0 out) done) (one-cause short rest)
 
   -- where build answers a length, no cell is named twice
   pub answered-once : 64 ≤ build f words out .answer → repeatCause f ≡ 0
   unfolding repeatCause when
   answered-once h =
-      rw (never-twice (ltb words (cube (grid f))) (repeated (grid f) (points f)) rest (output 0 0 out) done
+      rw (never-twice (ltb words (scratchWords f)) (repeated (grid f) (points f)) rest (output 0 0 out) done
       (subst (λ (o : Outcome Output). 64 ≤ o .answer) build-passed h))
 
   pub build-out : 64 ≤ build f words out .answer → build f words out .left .out ≡ treeBytes f (fileTree f) ++ drop (length (treeBytes f (fileTree f))) out
@@ -77,10 +87,10 @@ module _ (f : List ℕ) (words : ℕ) (out : List ℕ) (ok : fileCause f ≡ 0) 
       let t = fileTree f in
       let same = build-is (answered-once h) in
       ap (λ (o : Outcome Output). o .left .out) same
-      ∙ done-out (ltb words (cube (grid f))) (treeLarge f t) (ltb (length out) (treeLength t)) out (treeBytes f t) (treeLength t) (nodeCount t) (length (order t))
+      ∙ done-out (ltb words (scratchWords f)) (treeLarge f t) (ltb (length out) (treeLength t)) out (treeBytes f t) (treeLength t) (nodeCount t) (length (order t))
       (subst (λ (o : Outcome Output). 64 ≤ o .answer) same h)
 
   -- nor is a float too large
   pub answered-small : 64 ≤ build f words out .answer → treeLarge f (fileTree f) ≡ false
   answered-small h =
-      never-large (ltb words (cube (grid f))) (treeLarge f (fileTree f)) _ (output 0 0 out) done (subst (λ (o : Outcome Output). 64 ≤ o .answer) (build-is (answered-once h)) h)
+      never-large (ltb words (scratchWords f)) (treeLarge f (fileTree f)) _ (output 0 0 out) done (subst (λ (o : Outcome Output). 64 ≤ o .answer) (build-is (answered-once h)) h)

@@ -15,7 +15,7 @@ use lib.Ieee.{binary32, binary64, sub, div, ofBits, lt}
 use Rattle.float.specs.Number.{num}
 use Rattle.rym1.specs.Bytes.{word, le, wordsBytes, splice}
 use Rattle.rym1.specs.Causes.{when, first, Outcome, outcome, refuse}
-use Rattle.rym1.specs.File.{grid, count, density, volume, scale, boxMin, boxMax, pointsBytes, size, cell, cube, finite, allFinite, headerFloats, below, gridCause, fileCause, workCause, points, repeated, repeatCause}
+use Rattle.rym1.specs.File.{grid, count, density, volume, scale, boxMin, boxMax, pointsBytes, size, cell, cube, groups, finite, allFinite, headerFloats, below, gridCause, fileCause, workCause, points, repeated, repeatCause}
 use Rattle.rym1.specs.Cells.{Slot, look, atCell, recordsFrom, records}
 use Rattle.rym1.specs.Open as files
 use Rattle.rym1.specs.Open.{counted}
@@ -28,11 +28,11 @@ use Rattle.rym1.proofs.Repeated.{working-file-distinct}
 use Rattle.rym1.proofs.Changes.{Laid, laid-grid, laid-look, laid-cause, laid-works}
 use Rattle.rtm1.specs.Boxes.{Within, whole, cells, widest}
 use Rattle.rtm1.specs.Tree.{Tree, kindOf, treeOf, tree, nodeCount, order}
-use Rattle.rtm1.specs.Build.{treeLength, fileTree, Output, output, treeBytes, treeLarge, sourceCause, buildCause, build}
+use Rattle.rtm1.specs.Build.{treeLength, fileTree, Output, output, treeBytes, treeLarge, scratchWords, sourceCause, buildCause, build}
 use Rattle.rtm1.specs.Node.{least, cellSize, frameOf}
 use Rattle.rtm1.specs.Costliest.{unit, everyCell, costliestWords, costliestHeader, costliestFile, costliestNodes, costliestBytes, cost, costliest, writeCause, writeCostliest}
 use Rattle.rtm1.proofs.Boxes.{whole-within}
-use Rattle.rtm1.proofs.Build.{late, build-passed}
+use Rattle.rtm1.proofs.Build.{scratch-marks, late, build-passed}
 use Rattle.rtm1.proofs.Growth.{tree-same}
 use Rattle.rtm1.proofs.Order.{order-length, order-few}
 use Rattle.rtm1.proofs.Full.{Full, full-visit, nodes-most, full-alike, nodes-by, fullNodes, wholeNodes}
@@ -276,14 +276,15 @@ module _ (g : ℕ) (pos : 0 < g) (few : g ≤ 256) (rest : List ℕ) where
   its-order = ap (λ (t : Tree). length (order t)) same-tree ∙ all-ordered g pos few
 
   -- none of 1 to 8 and 21 is against it
-  costliest-source : (words : ℕ) → cube g ≤ words → sourceCause (costliestFile g ++ rest) words ≡ 0
+  costliest-source : (words : ℕ) → 2 * groups (cube g) ≤ words → sourceCause (costliestFile g ++ rest) words ≡ 0
   unfolding sourceCause when
   costliest-source words enough =
       let f = costliestFile g ++ rest in
-      let eight : when (ltb words (cube (grid f))) 8 ≡ 0 = rw (costliest-grid g pos few rest, le-ltb words (cube g) enough) in
-      first-none _ _ (costliest-accepted g pos few rest) ∙ first-none _ _ eight ∙ working-file-distinct f (costliest-works g pos few rest)
+      let works = costliest-works g pos few rest in
+      let eight : when (ltb words (scratchWords f)) 8 ≡ 0 = rw (scratch-marks f works, costliest-grid g pos few rest, le-ltb words (2 * groups (cube g)) enough) in
+      first-none _ _ (costliest-accepted g pos few rest) ∙ first-none _ _ eight ∙ working-file-distinct f works
 
-  module _ (words : ℕ) (out : List ℕ) (enough : cube g ≤ words) (room : costliestBytes g ≤ length out) where
+  module _ (words : ℕ) (out : List ℕ) (enough : 2 * groups (cube g) ≤ words) (room : costliestBytes g ≤ length out) where
     none-against : buildCause (costliestFile g ++ rest) words out ≡ 0
     unfolding buildCause when
     none-against =
@@ -316,7 +317,7 @@ unfolding repeatCause treeLength outcome
 costliest-enough f ok words out room nine =
     let fits : ltb (length out) (treeLength (fileTree f)) ≡ false = le-ltb (length out) (treeLength (fileTree f)) (le-trans (costliest-most f ok .1) room) in
     let passed = ap (λ (o : Outcome Output). o .answer) (build-passed f words out ok) in
-    not-nine (ltb words (cube (grid f))) (repeated (grid f) (points f)) (treeLarge f (fileTree f)) out _ (omega arith) (rw fits at (sym passed ∙ nine))
+    not-nine (ltb words (scratchWords f)) (repeated (grid f) (points f)) (treeLarge f (fileTree f)) out _ (omega arith) (rw fits at (sym passed ∙ nine))
 
 -- ---- 6. computed: g 1 to 8, and 256
 

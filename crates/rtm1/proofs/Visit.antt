@@ -3,7 +3,8 @@
 use Prim.Native.Nat.{ℕ, zero, suc, _+_, _*_, _-_, _<_, _≤_}
 use mathlib.Core.Path.{_≡_, refl, sym, ap, ap₂, _∙_}
 use mathlib.Core.List.{List, [], _∷_, _++_, map-append, append-assoc, List·Permᴰ, List·Permᴰ·nil, List·Permᴰ·trans, Permᴰ·map}
-use native.Mathlib.Nat.{zero-add, add-zero, suc-add, add-suc}
+use native.Mathlib.Nat.{zero-add, add-zero, suc-add, add-suc, sub-eq-zero-of-le}
+use native.Mathlib.Numerals.{add-one}
 use native.Mathlib.Omega.{arith}
 use lib.ListN.{length, length-append}
 use Rattle.rym1.specs.File.{cell}
@@ -23,6 +24,17 @@ pub run-append : (f : ℕ → List Placed) (a m n : ℕ) → run f a (m + n) ≡
 unfolding run
 run-append f a zero n = ap₂ (run f) (sym (add-zero a)) (zero-add n)
 run-append f a (suc m) n = ap (run f a) (suc-add m n) ∙ ap (λ (l : List Placed). f a ++ l) (run-append f (suc a) m n) ∙ simp (append-assoc, suc-add, add-suc)
+
+-- from a up to e: the first place and the others; none
+pub run-first : (f : ℕ → List Placed) (e a : ℕ) → a < e → run f a (e - a) ≡ f a ++ run f (a + 1) (e - (a + 1))
+unfolding run
+run-first f e a h =
+    let more : e - a ≡ suc (e - (a + 1)) = omega arith in
+    ap (run f a) more ∙ ap (λ (k : ℕ). f a ++ run f k (e - (a + 1))) (sym (add-one a))
+
+pub run-none : (f : ℕ → List Placed) (e a : ℕ) → e ≤ a → run f a (e - a) ≡ []
+unfolding run
+run-none f e a h = ap (run f a) (sub-eq-zero-of-le h)
 
 -- a run from a up to e, cut at c
 pub run-cut : (f : ℕ → List Placed) (a c e : ℕ) → a ≤ c → c ≤ e → run f a (c - a) ++ run f c (e - c) ≡ run f a (e - a)

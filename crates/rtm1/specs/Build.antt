@@ -1,12 +1,12 @@
 -- The tree file RTM1, and what build answers and leaves in its output. Definitions only.
 use Prim.Native.Nat.{ℕ, _+_, _*_}
-use mathlib.Core.Bool.{Bool}
+use mathlib.Core.Bool.{Bool, cond}
 use mathlib.Core.List.{List, [], _∷_, _++_}
 use lib.ListN.{length}
-use lib.Dec.{ltb}
+use lib.Dec.{eqb, ltb}
 use Rattle.rym1.specs.Bytes.{wordsBytes, splice}
 use Rattle.rym1.specs.Causes.{number, when, first, Outcome, outcome, refuse}
-use Rattle.rym1.specs.File.{grid, count, density, volume, scale, boxMin, boxMax, cube, fileCause, repeatCause}
+use Rattle.rym1.specs.File.{grid, count, density, volume, scale, boxMin, boxMax, cube, groups, fileCause, workCause, repeatCause}
 use Rattle.rym1.specs.Cells.{look}
 use Rattle.rtm1.specs.declared.Built.{Built}
 use Rattle.rtm1.specs.declared.Built.the-variants.{Refused, Done}
@@ -60,9 +60,13 @@ pub record Output : Type 0 where
 unfoldable pub output : ℕ → ℕ → List ℕ → Output
 output n k s = record { nodes = n; order = k; out = s }
 
--- why no tree is made of a point file, with so many words of scratch lent: 1 to 7; 8, fewer than g³ words; 21
+-- how many words of scratch: of a file in working form two per 32 cells, a word of occupied marks and a running total; of any other one per cell
+unfoldable pub scratchWords : List ℕ → ℕ
+scratchWords f = cond (eqb (workCause f) 0) (2 * groups (cube (grid f))) (cube (grid f))
+
+-- why no tree is made of a point file, with so many words of scratch lent: 1 to 7; 8, too few words; 21
 unfoldable pub sourceCause : List ℕ → ℕ → ℕ
-sourceCause f words = first (fileCause f) (first (when (ltb words (cube (grid f))) 8) (repeatCause f))
+sourceCause f words = first (fileCause f) (first (when (ltb words (scratchWords f)) 8) (repeatCause f))
 
 -- that; 22, a float of the tree is too large; 9, no room for the tree
 unfoldable pub buildCause : List ℕ → ℕ → List ℕ → ℕ

@@ -1,23 +1,23 @@
 // The visit of a box, z outermost, x innermost: the sums of its points, their order words.
-// A lookup in lent words names them.
+// Runs of records give them, whichever form the lent words have.
 pub mod ordered;
 
 ghost use mathlib.Core.Path.{_≡_};
 ghost use Prim.Native.Nat.{_+_, _≤_, _<_};
 ghost use lib.ListN.{length};
-ghost use lib.Ieee.{binary32, ofBits};
+ghost use mathlib.Core.Bool.{false};
+ghost use lib.Ieee.{binary32, ofBits, nanBits};
 ghost use Rattle.rym1.specs.Bytes.{word32};
-ghost use Rattle.rym1.specs.File.{cell};
+ghost use Rattle.rym1.specs.File.{count, fileCause};
 ghost use Rattle.rym1.specs.Cells.{look};
-ghost use Rattle.rym1.proofs.Accepted.{Inside};
-ghost use Rattle.lookup.specs.Lookup.{slotWord};
 ghost use Rattle.rtm1.specs.Boxes.{Within};
-ghost use Rattle.rtm1.specs.Visit.{moved, shifted, with, total, nothing, pointIn, row, plane, visit};
+ghost use Rattle.rtm1.specs.Visit.{moved, shifted, with, total, nothing, row, plane, visit};
 ghost use Rattle.rtm1.specs.Tree.{sumsOf};
-ghost use Rattle.sums.specs.Ready.{Ready};
-use points::records::cell_number;
+ghost use Rattle.runs.specs.Runs.{placed, Ready};
 use rtm1::Cells;
 use rtm1::Sums;
+use runs::Form;
+use runs::next_run;
 
 // No point.
 fn nothing() -> Sums
@@ -72,43 +72,46 @@ fn with_point(s: Sums, x: u32, y: u32, z: u32, cauchy: f64, elliptic: f64) -> Su
     }
 }
 
-// A mass of the point file, as a binary64.
+// A mass of the point file, as a binary64. It is finite, so that no NaN need be told apart.
 fn mass_at(file: &[u8], at: usize) -> f64
-    requires { ⌜ at + 4 ≤ length (now file) ⌝ }
+    requires { ⌜ (at + 4 ≤ length (now file)) × (nanBits binary32 (word32 (now file) at) ≡ false) ⌝ }
     ensures { λ r. ⌜ r ≡ ofBits binary32 (word32 (now (file .entry)) at) ⌝ }
 {
-    float::pattern::widen(binary::u32_at(file, at))
+    f32::from_bits(binary::u32_at(file, at)) as f64
 }
 
-// The lookup's word for a cell: 0, or one more than the index of the point that it holds.
-fn slot_word(words: &[u32], file: &[u8], g: u32, x: u32, y: u32, z: u32) -> u32
-    requires { ⌜ Ready (now words) (now file) g ⌝ }
-    requires { ⌜ Inside g x y z ⌝ }
-    ensures { λ r. ⌜ r ≡ slotWord (look (now (file .entry)) (cell g x y z)) ⌝ }
+// The sums with k records on end, from record i on, which lie in row y, z.
+fn add_records(file: &[u8], s: Sums, z: u32, y: u32, i: u32, k: u32) -> Sums
+    requires { ⌜ fileCause (now file) ≡ 0 ⌝ }
+    requires { ⌜ (i + k ≤ count (now file)) × (s .count + k < 4294967296) ⌝ }
+    ensures { λ r. ⌜ r ≡ total s (placed (now (file .entry)) z y i k) ⌝ }
 {
-    words[cell_number(g, x, y, z) as usize]
-}
-
-// The sums with what a cell holds.
-fn visit_cell(words: &[u32], file: &[u8], g: u32, z: u32, y: u32, x: u32, s: Sums) -> Sums
-    requires { ⌜ Ready (now words) (now file) g ⌝ }
-    requires { ⌜ Inside g x y z ⌝ }
-    requires { ⌜ s .count < 4294967295 ⌝ }
-    ensures { λ r. ⌜ r ≡ total s (pointIn (look (now (file .entry))) g z y x) ⌝ }
-    ensures { λ r. ⌜ r .count ≤ s .count + 1 ⌝ }
-{
-    let word = slot_word(words, file, g, x, y, z) as usize;
-    if word == 0 {
-        return s;
+    let mut t = s;
+    let mut index = i as usize;
+    let end = index + k as usize;
+    while index < end {
+        let at = 64 + 16 * index;
+        let x = binary::u16_at(file, at);
+        let cauchy = mass_at(file, at + 8);
+        let elliptic = mass_at(file, at + 12);
+        t = with_point(t, x, y, z, cauchy, elliptic);
+        index += 1;
     }
-    let cauchy = mass_at(file, 56 + 16 * word);
-    let elliptic = mass_at(file, 60 + 16 * word);
-    with_point(s, x, y, z, cauchy, elliptic)
+    t
 }
 
 // The sums with a row of the box.
-fn visit_row(words: &[u32], file: &[u8], g: u32, b: Cells, z: u32, y: u32, s: Sums) -> Sums
-    requires { ⌜ Ready (now words) (now file) g ⌝ }
+fn visit_row(
+    words: &[u32],
+    file: &[u8],
+    form: Form,
+    g: u32,
+    b: Cells,
+    z: u32,
+    y: u32,
+    s: Sums,
+) -> Sums
+    requires { ⌜ Ready form (now words) (now file) g ⌝ }
     requires { ⌜ Within g b ⌝ }
     requires { ⌜ (y < g) × (z < g) × (s .count ≤ 2147483648) ⌝ }
     ensures { λ r. ⌜ r ≡ total s (row (look (now (file .entry))) g b z y) ⌝ }
@@ -118,15 +121,16 @@ fn visit_row(words: &[u32], file: &[u8], g: u32, b: Cells, z: u32, y: u32, s: Su
     let mut x = b.x0;
     let end = b.x1;
     while x < end {
-        t = visit_cell(words, file, g, z, y, x, t);
-        x += 1;
+        let r = next_run(words, file, form, g, z, y, x, end);
+        t = add_records(file, t, z, y, r.index, r.count);
+        x = r.next;
     }
     t
 }
 
 // The sums with a plane of the box.
-fn visit_plane(words: &[u32], file: &[u8], g: u32, b: Cells, z: u32, s: Sums) -> Sums
-    requires { ⌜ Ready (now words) (now file) g ⌝ }
+fn visit_plane(words: &[u32], file: &[u8], form: Form, g: u32, b: Cells, z: u32, s: Sums) -> Sums
+    requires { ⌜ Ready form (now words) (now file) g ⌝ }
     requires { ⌜ Within g b ⌝ }
     requires { ⌜ (z < g) × (s .count ≤ 1073741824) ⌝ }
     ensures { λ r. ⌜ r ≡ total s (plane (look (now (file .entry))) g b z) ⌝ }
@@ -136,15 +140,15 @@ fn visit_plane(words: &[u32], file: &[u8], g: u32, b: Cells, z: u32, s: Sums) ->
     let mut y = b.y0;
     let end = b.y1;
     while y < end {
-        t = visit_row(words, file, g, b, z, y, t);
+        t = visit_row(words, file, form, g, b, z, y, t);
         y += 1;
     }
     t
 }
 
 // The sums of a box.
-pub fn sums_of(words: &[u32], file: &[u8], g: u32, b: Cells) -> Sums
-    requires { ⌜ Ready (now words) (now file) g ⌝ }
+pub fn sums_of(words: &[u32], file: &[u8], form: Form, g: u32, b: Cells) -> Sums
+    requires { ⌜ Ready form (now words) (now file) g ⌝ }
     requires { ⌜ Within g b ⌝ }
     ensures { λ r. ⌜ r ≡ sumsOf (look (now (file .entry))) g b ⌝ }
     ensures { λ r. ⌜ r .count ≡ length (visit (look (now (file .entry))) g b) ⌝ }
@@ -153,7 +157,7 @@ pub fn sums_of(words: &[u32], file: &[u8], g: u32, b: Cells) -> Sums
     let mut z = b.z0;
     let end = b.z1;
     while z < end {
-        t = visit_plane(words, file, g, b, z, t);
+        t = visit_plane(words, file, form, g, b, z, t);
         z += 1;
     }
     t

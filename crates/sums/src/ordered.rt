@@ -1,35 +1,31 @@
 // The order words of a box's points, from a byte on. Each function answers the byte behind them.
-ghost use Prim.Native.Nat.{_<_};
+ghost use mathlib.Core.Path.{_≡_};
+ghost use Prim.Native.Nat.{_+_, _*_, _≤_, _<_};
+ghost use lib.ListN.{length};
+ghost use Rattle.rym1.specs.Bytes.{splice, wordsBytes};
 ghost use Rattle.rym1.specs.Cells.{look};
-ghost use Rattle.rym1.proofs.Accepted.{Inside};
 ghost use Rattle.rtm1.specs.Boxes.{Within};
-ghost use Rattle.rtm1.specs.Visit.{pointIn, row, plane, visit};
-ghost use Rattle.sums.specs.Ready.{Ready, Room, Ordered};
-use crate::slot_word;
+ghost use Rattle.rtm1.specs.Visit.{row, plane, visit};
+ghost use Rattle.runs.specs.Runs.{Ready};
+ghost use Rattle.sums.specs.Ordered.{upward, Room, Ordered};
 use rtm1::Cells;
+use runs::Form;
+use runs::next_run;
 
-// Of a cell.
-fn out_cell(
-    out: &mut [u8],
-    at: usize,
-    words: &[u32],
-    file: &[u8],
-    g: u32,
-    z: u32,
-    y: u32,
-    x: u32,
-) -> usize
-    requires { ⌜ Ready (now words) (now file) g ⌝ }
-    requires { ⌜ Inside g x y z ⌝ }
-    requires { ⌜ Room (now out) at (pointIn (look (now file)) g z y x) ⌝ }
-    ensures { λ r. ⌜ Ordered (now (out .entry)) at (pointIn (look (now (file .entry))) g z y x) (now (out .exit)) r ⌝ }
+// Of k records on end, from record i on.
+fn out_records(out: &mut [u8], from: usize, i: u32, k: u32) -> usize
+    requires { ⌜ (from + 4 * k ≤ length (now out)) × (i + k < 4294967296) ⌝ }
+    ensures { λ r. ⌜ (now (out .exit) ≡ splice (now (out .entry)) from (wordsBytes (upward i k))) × (r ≡ from + 4 * k) ⌝ }
 {
-    let word = slot_word(words, file, g, x, y, z);
-    if word == 0 {
-        return at;
+    let mut at = from;
+    let mut index = i;
+    let end = i + k;
+    while index < end {
+        binary::out_u32(out, at, index);
+        at += 4;
+        index += 1;
     }
-    binary::out_u32(out, at, word - 1);
-    at + 4
+    at
 }
 
 // Of a row of the box.
@@ -38,12 +34,13 @@ fn out_row(
     from: usize,
     words: &[u32],
     file: &[u8],
+    form: Form,
     g: u32,
     b: Cells,
     z: u32,
     y: u32,
 ) -> usize
-    requires { ⌜ Ready (now words) (now file) g ⌝ }
+    requires { ⌜ Ready form (now words) (now file) g ⌝ }
     requires { ⌜ Within g b ⌝ }
     requires { ⌜ (y < g) × (z < g) ⌝ }
     requires { ⌜ Room (now out) from (row (look (now file)) g b z y) ⌝ }
@@ -53,8 +50,9 @@ fn out_row(
     let mut x = b.x0;
     let end = b.x1;
     while x < end {
-        at = out_cell(out, at, words, file, g, z, y, x);
-        x += 1;
+        let r = next_run(words, file, form, g, z, y, x, end);
+        at = out_records(out, at, r.index, r.count);
+        x = r.next;
     }
     at
 }
@@ -65,11 +63,12 @@ fn out_plane(
     from: usize,
     words: &[u32],
     file: &[u8],
+    form: Form,
     g: u32,
     b: Cells,
     z: u32,
 ) -> usize
-    requires { ⌜ Ready (now words) (now file) g ⌝ }
+    requires { ⌜ Ready form (now words) (now file) g ⌝ }
     requires { ⌜ Within g b ⌝ }
     requires { ⌜ z < g ⌝ }
     requires { ⌜ Room (now out) from (plane (look (now file)) g b z) ⌝ }
@@ -79,15 +78,23 @@ fn out_plane(
     let mut y = b.y0;
     let end = b.y1;
     while y < end {
-        at = out_row(out, at, words, file, g, b, z, y);
+        at = out_row(out, at, words, file, form, g, b, z, y);
         y += 1;
     }
     at
 }
 
 // Of the box.
-pub fn out_order(out: &mut [u8], from: usize, words: &[u32], file: &[u8], g: u32, b: Cells) -> usize
-    requires { ⌜ Ready (now words) (now file) g ⌝ }
+pub fn out_order(
+    out: &mut [u8],
+    from: usize,
+    words: &[u32],
+    file: &[u8],
+    form: Form,
+    g: u32,
+    b: Cells,
+) -> usize
+    requires { ⌜ Ready form (now words) (now file) g ⌝ }
     requires { ⌜ Within g b ⌝ }
     requires { ⌜ Room (now out) from (visit (look (now file)) g b) ⌝ }
     ensures { λ r. ⌜ Ordered (now (out .entry)) from (visit (look (now (file .entry))) g b) (now (out .exit)) r ⌝ }
@@ -96,7 +103,7 @@ pub fn out_order(out: &mut [u8], from: usize, words: &[u32], file: &[u8], g: u32
     let mut z = b.z0;
     let end = b.z1;
     while z < end {
-        at = out_plane(out, at, words, file, g, b, z);
+        at = out_plane(out, at, words, file, form, g, b, z);
         z += 1;
     }
     at

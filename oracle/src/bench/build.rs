@@ -6,6 +6,7 @@ use crate::original::{self, Answered};
 use crate::points::{point_file, Header, Record};
 use crate::rng::Rng;
 use crate::rule::cell_of;
+use crate::rule::tree::pairs_of_words;
 use std::hint::black_box;
 use std::time::Duration;
 
@@ -18,13 +19,17 @@ struct Input {
     occupied: fn(&mut Rng, u32, [u16; 3]) -> bool,
 }
 
-const INPUTS: [Input; 6] = [
+const INPUTS: [Input; 10] = [
     input("g 64, full", 64, full),
     input("g 128, full", 128, full),
     input("g 192, a ball of a fifth", 192, ball_of_a_fifth),
     input("g 192, full", 192, full),
     input("g 64, a fifth at random", 64, fifth_at_random),
     input("g 192, a fifth at random", 192, fifth_at_random),
+    input("g 128, a ball of a fifth", 128, ball_of_a_fifth),
+    input("g 128, a contact binary", 128, contact_binary),
+    input("g 192, a contact binary", 192, contact_binary),
+    input("g 256, one point", 256, one_point),
 ];
 
 const fn input(
@@ -47,11 +52,31 @@ fn fifth_at_random(rng: &mut Rng, _: u32, _: [u16; 3]) -> bool {
     rng.below(5) == 0
 }
 
+/// The square of a cell's distance from a point, both in sides of the grid.
+fn square_from(middle: [f64; 3], grid: u32, cell: [u16; 3]) -> f64 {
+    let from = |i: u16, middle: f64| (f64::from(i) + 0.5) / f64::from(grid) - middle;
+    let squares = cell
+        .into_iter()
+        .zip(middle)
+        .map(|(i, m)| from(i, m).powi(2));
+    squares.sum()
+}
+
 /// Whether a cell is in the ball round the grid's middle that has a fifth of the grid's volume.
 fn ball_of_a_fifth(_: &mut Rng, grid: u32, cell: [u16; 3]) -> bool {
-    let from_middle = |i: u16| (f64::from(i) + 0.5) / f64::from(grid) - 0.5;
-    let squares = cell.iter().map(|&i| from_middle(i).powi(2)).sum::<f64>();
-    squares.powf(1.5) * std::f64::consts::PI * 4.0 / 3.0 < 0.2
+    let square = square_from([0.5; 3], grid, cell);
+    square.powf(1.5) * std::f64::consts::PI * 4.0 / 3.0 < 0.2
+}
+
+/// Whether a cell is in one of two balls that touch, side by side along x: about a tenth of the grid.
+fn contact_binary(_: &mut Rng, grid: u32, cell: [u16; 3]) -> bool {
+    let ball = |x: f64, radius: f64| square_from([x, 0.5, 0.5], grid, cell) < radius * radius;
+    ball(0.3, 0.25) || ball(0.75, 0.2)
+}
+
+/// Whether a cell is the one past the grid's middle.
+fn one_point(_: &mut Rng, grid: u32, cell: [u16; 3]) -> bool {
+    cell.map(u32::from) == [grid / 2; 3]
 }
 
 impl Input {
@@ -78,7 +103,7 @@ struct Times {
     copy: Duration,
 }
 
-/// Runs all in turn and compares their outputs; the library's buffers are there beforehand.
+/// Runs all in turn and compares their outputs; the library's buffers are there beforehand, scratch of the size that working form needs.
 fn race(input: &Input) -> Result<(Built, Times), String> {
     let file = input.file();
     let told = || original::tree(&file).map(Answered::taken);
@@ -88,7 +113,7 @@ fn race(input: &Input) -> Result<(Built, Times), String> {
         original: Duration::MAX,
         copy: Duration::MAX,
     };
-    let mut scratch = vec![7; input.grid.pow(3) as usize];
+    let mut scratch = vec![7; pairs_of_words(u64::from(input.grid)) as usize];
     let mut out = vec![7; tree.len()];
     let mut copies = (vec![7; file.len()], vec![7; tree.len()]);
     for _ in 0..RUNS {

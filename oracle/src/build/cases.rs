@@ -2,12 +2,12 @@
 
 use crate::open::cases::{
     coordinate, coordinates_and_masses, file_length, finite, header, header_float, header_word,
-    kind, mass, mutated, not_read, nothing, one_in, pick, same_masses, scratch_length, several_of,
+    kind, later_causes, mass, mutated, not_read, nothing, one_in, pick, same_masses, several_of,
     short_buffers, shuffle, small_grid, sparse, up_to, with_records_of, word, Case, Kind, FINITE,
 };
 use crate::points::{point_file, Header, Record};
 use crate::rng::Rng;
-use crate::rule::tree::{points_of_nodes, tree};
+use crate::rule::tree::{pairs_of_words, points_of_nodes, scratch_words, tree};
 use crate::rule::{cell_of, folded, HEADER, RECORD, TOO_LARGE};
 
 /// Cells in ascending order, at a grid size.
@@ -16,7 +16,10 @@ type Shape = fn(&mut Rng, usize) -> Vec<usize>;
 /// Masses for so many points, in cell order.
 type Masses = fn(&mut Rng, usize) -> Vec<f32>;
 
-pub(crate) const KINDS: [Kind; 25] = [
+/// What is made of the records of a file in working form; the number of those that count, from the first on.
+type Form = fn(&mut Rng, &mut Vec<[u8; RECORD]>) -> usize;
+
+pub(crate) const KINDS: [Kind; 28] = [
     kind("every grid size", 16_000, every_grid, nothing),
     kind("full grids", 1_200, full_grid, nothing),
     kind("touching balls", 8_000, balls, nothing),
@@ -39,7 +42,7 @@ pub(crate) const KINDS: [Kind; 25] = [
         with_records,
         coordinates_and_masses,
     ),
-    kind("scratch lengths", 30_000, any_cells, scratch_length),
+    kind("scratch lengths", 30_000, any_cause, scratch_length),
     kind("output lengths", 40_000, any_cells, output_length),
     kind("several causes", 60_000, any_cause, several),
     kind("mutated bytes", 40_000, any_cells, mutated),
@@ -47,6 +50,15 @@ pub(crate) const KINDS: [Kind; 25] = [
     kind("too large", 40_000, too_large, nothing),
     kind("nearly too large", 60_000, nearly, nothing),
     kind("22 and other causes", 40_000, too_large, earlier_and_later),
+    kind("sizes of scratch", 50_000, in_order, each_size),
+    kind("nearly in working form", 50_000, in_order, each_form),
+    kind("ends of words", 30_000, ends_of_words, pairs_alone),
+];
+
+/// Some are in working form still: nothing is done, or all is done past the records that count.
+const FORMS: [Form; 12] = [
+    kept, padded, swapped, kept, doubled, behind, by_x, last_first, fewer, any_order, padded,
+    swapped,
 ];
 
 /// Masses such as a body has.
@@ -58,21 +70,29 @@ const CANCELLING: [Masses; 4] = [balanced, balanced, near_nothing, far];
 /// Masses at the edges of what is finite.
 const EXTREME: [Masses; 6] = [zeros, edges, huge, any, lesser_edges, moderate];
 
-/// A file as it stands, with just enough room for the tree of the folded one; build has no journal.
+/// A file as it stands, with the words that it needs and just enough room for the tree of the folded one; build has no journal.
 pub(crate) fn exact(file: Vec<u8>, grid: usize, records: usize) -> Case {
     let (_, built) = tree(&folded(&file));
+    let words = scratch_words(&file);
     let mut case = Case::of(file, grid, records);
+    case.scratch = words as usize;
     case.needed = built.answer as usize;
     case.out = case.needed;
     case.journal = 0;
     case
 }
 
-/// The good case of these records, with room, often more than enough.
+/// The words that a file needs in working form, and in any other.
+fn sizes(grid: usize) -> [usize; 2] {
+    [pairs_of_words(grid as u64) as usize, grid.pow(3)]
+}
+
+/// The good case of these records, with room, often more than enough: scratch is enough in any form, as damage may change it.
 fn with_room(rng: &mut Rng, header: Header, records: &[Record]) -> Case {
     let file = point_file(header, records);
     let mut case = exact(file, header.grid as usize, records.len());
-    case.scratch += up_to(rng, 3);
+    let [pairs, cells] = sizes(case.grid);
+    case.scratch = pairs.max(cells) + up_to(rng, 3);
     case.out += up_to(rng, 40);
     case.junk = word(rng);
     case
@@ -94,11 +114,11 @@ fn records(rng: &mut Rng, grid: usize, cells: &[usize], masses: &[Masses]) -> Ve
         .collect()
 }
 
-/// In cell order, the other way round, or in none.
+/// In cell order once in two, else the other way round, or in none.
 fn reorder(rng: &mut Rng, records: &mut [Record]) {
-    match rng.below(4) {
-        0 => (),
-        1 => records.reverse(),
+    match rng.below(6) {
+        0..3 => (),
+        3 => records.reverse(),
         _ => shuffle(rng, records),
     }
 }
@@ -386,8 +406,7 @@ fn nearly(rng: &mut Rng) -> Case {
 /// The output short once in two, a record of a cell that a later one names once in two, scratch short once in four: 22 meets the causes before
 /// it and after it.
 fn earlier_and_later(rng: &mut Rng, number: usize, case: &mut Case) {
-    let [out, scratch] = [number & 1, usize::from(number & 12 == 12)];
-    short_buffers(rng, scratch | out << 1, case);
+    short_buffers(rng, (number & 1) << 1, case);
     if number & 2 != 0 {
         let again = HEADER + RECORD * up_to(rng, case.records - 1);
         let cell = case.file[again..again + 6].to_vec();
@@ -397,6 +416,159 @@ fn earlier_and_later(rng: &mut Rng, number: usize, case: &mut Case) {
         let count = (case.records as u32).to_le_bytes();
         case.file[12..16].copy_from_slice(&count);
     }
+    if number & 12 == 12 {
+        case.scratch = pick(rng, &[0, scratch_words(&case.file) as usize - 1]);
+    }
+}
+
+/// Any shape in cell order, at g 1, which needs more words in working form, and at others, which need fewer.
+fn in_order(rng: &mut Rng) -> Case {
+    let grid = pick(rng, &[1, 1, 2, 2, 3, 4, 5, 6, 8, 10]);
+    let shape = pick::<Shape>(rng, &[any_share, rows_and_planes, near_eight]);
+    ascending(rng, grid, shape)
+}
+
+/// The case of a shape at a grid size, its records in cell order.
+fn ascending(rng: &mut Rng, grid: usize, shape: Shape) -> Case {
+    let cells = shape(rng, grid);
+    let records = records(rng, grid, &cells, &USUAL);
+    let header = a_header(rng, grid);
+    with_room(rng, header, &records)
+}
+
+/// Points in the first and the last cells of words of 32 and in the last of the grid.
+fn ends_of_words(rng: &mut Rng) -> Case {
+    let grid = pick(rng, &[3, 4, 4, 5, 5, 6, 7, 8, 12]);
+    ascending(rng, grid, word_ends)
+}
+
+/// About a half or all of the cells at either end of a word, and none, a few or most of the others.
+fn word_ends(rng: &mut Rng, grid: usize) -> Vec<usize> {
+    let last = grid.pow(3) - 1;
+    let [ends, others] = [pick(rng, &[4, 4, 8]), pick(rng, &[0, 0, 1, 7])];
+    let is_end = |cell: usize| matches!(cell % 32, 0 | 1 | 30 | 31) || cell == last;
+    let taken = |&cell: &usize| rng.below(8) < if is_end(cell) { ends } else { others };
+    (0..=last).filter(taken).collect()
+}
+
+/// Makes this of a case's records, with junk behind them once in two, and lends what the file then needs.
+fn make(rng: &mut Rng, form: Form, case: &mut Case) {
+    let mut records = case.file[HEADER..].as_chunks().0.to_vec();
+    let count = form(rng, &mut records);
+    let mut file = [&case.file[..HEADER], records.as_flattened()].concat();
+    file[12..16].copy_from_slice(&(count as u32).to_le_bytes());
+    if one_in(rng, 2) {
+        let more = rng.range(1, 40);
+        file.extend((0..more).map(|_| rng.bits() as u8));
+    }
+    let junk = case.junk;
+    *case = exact(file, case.grid, count);
+    case.out += up_to(rng, 40);
+    case.junk = junk;
+}
+
+/// Any form, with the words that a file in working form needs, that another needs, one less and one more, in turn.
+fn each_size(rng: &mut Rng, number: usize, case: &mut Case) {
+    let form = pick(rng, &FORMS);
+    make(rng, form, case);
+    let [pairs, cells] = sizes(case.grid);
+    case.scratch = [pairs - 1, pairs, cells - 1, cells, pairs + 1][number % 5];
+}
+
+/// The forms in turn, with the words that a file in working form needs, or any number up to what another needs.
+fn each_form(rng: &mut Rng, number: usize, case: &mut Case) {
+    make(rng, FORMS[number % FORMS.len()], case);
+    let [pairs, cells] = sizes(case.grid);
+    let between = pairs.min(cells) + up_to(rng, pairs.abs_diff(cells));
+    case.scratch = pick(rng, &[pairs, pairs, between]);
+}
+
+/// Just the words that a file in working form needs, or one more.
+fn pairs_alone(_: &mut Rng, number: usize, case: &mut Case) {
+    let [pairs, _] = sizes(case.grid);
+    case.scratch = pairs + number % 2;
+}
+
+/// The place of one of so many: the first, the last, or any.
+fn a_place(rng: &mut Rng, places: usize) -> Option<usize> {
+    let last = places.checked_sub(1)?;
+    let any = up_to(rng, last);
+    Some(pick(rng, &[0, last, any]))
+}
+
+fn kept(_: &mut Rng, records: &mut Vec<[u8; RECORD]>) -> usize {
+    records.len()
+}
+
+/// A pad of one record, or of all.
+fn padded(rng: &mut Rng, records: &mut Vec<[u8; RECORD]>) -> usize {
+    let any = word(rng) as u16 | 1;
+    let pad = pick(rng, &[1, 0x80, 0x100, 0x8000, any]).to_le_bytes();
+    match a_place(rng, records.len()) {
+        Some(place) if !one_in(rng, 4) => records[place][6..8].copy_from_slice(&pad),
+        _ => records
+            .iter_mut()
+            .for_each(|record| record[6..8].copy_from_slice(&pad)),
+    }
+    records.len()
+}
+
+/// Two neighbours the other way round.
+fn swapped(rng: &mut Rng, records: &mut Vec<[u8; RECORD]>) -> usize {
+    if let Some(place) = a_place(rng, records.len().saturating_sub(1)) {
+        records.swap(place, place + 1);
+    }
+    records.len()
+}
+
+/// A record a second time beside itself, with the same masses or others.
+fn doubled(rng: &mut Rng, records: &mut Vec<[u8; RECORD]>) -> usize {
+    if let Some(place) = a_place(rng, records.len()) {
+        let mut again = records[place];
+        if one_in(rng, 2) {
+            again[8..12].copy_from_slice(&finite(rng).to_le_bytes());
+        }
+        records.insert(place, again);
+    }
+    records.len()
+}
+
+/// x outermost, z innermost.
+fn by_x(_: &mut Rng, records: &mut Vec<[u8; RECORD]>) -> usize {
+    records.sort_by_key(|record| [0, 2, 4].map(|at| [record[at + 1], record[at]]));
+    records.len()
+}
+
+/// The last record first.
+fn last_first(_: &mut Rng, records: &mut Vec<[u8; RECORD]>) -> usize {
+    let count = records.len();
+    records.rotate_right(count.min(1));
+    count
+}
+
+fn any_order(rng: &mut Rng, records: &mut Vec<[u8; RECORD]>) -> usize {
+    shuffle(rng, records);
+    records.len()
+}
+
+/// More behind the records that count: the same again, in some form.
+fn behind(rng: &mut Rng, records: &mut Vec<[u8; RECORD]>) -> usize {
+    let (count, mut more) = (records.len(), records.clone());
+    let any = pick::<Form>(rng, &[kept, padded, doubled, any_order]);
+    any(rng, &mut more);
+    records.append(&mut more);
+    count
+}
+
+/// Fewer count than there are, at times none; the others in some form.
+fn fewer(rng: &mut Rng, records: &mut Vec<[u8; RECORD]>) -> usize {
+    let count = pick(rng, &[0, 1, 1, 2]) * records.len() / 2;
+    let count = count.saturating_sub(usize::from(count == records.len()));
+    let mut others = records.split_off(count);
+    let any = pick::<Form>(rng, &[padded, doubled, last_first, any_order]);
+    any(rng, &mut others);
+    records.append(&mut others);
+    count
 }
 
 /// Grid sizes 25 to 64; a few at 192 and 256, with few points.
@@ -601,6 +773,31 @@ fn far(rng: &mut Rng, points: usize) -> Vec<f32> {
     masses
 }
 
+/// Scratch of every length that a mistaken rule could ask for, of a file in working form or of another.
+fn scratch_length(rng: &mut Rng, number: usize, case: &mut Case) {
+    let [pairs, cells] = sizes(case.grid);
+    let lengths = [
+        pairs - 1,
+        pairs,
+        cells - 1,
+        cells,
+        0,
+        1,
+        pairs + 1,
+        pairs + 2,
+        cells + 1,
+        cells + up_to(rng, 100),
+        (2 * cells).div_ceil(32),
+        cells / 32 * 2,
+        cells.div_ceil(32),
+        case.grid.pow(2),
+        case.records,
+        up_to(rng, cells - 1),
+    ];
+    case.scratch = lengths[number % lengths.len()];
+    later_causes(rng, case);
+}
+
 /// A short buffer, or nothing.
 fn large_lengths(rng: &mut Rng, number: usize, case: &mut Case) {
     match number % 8 {
@@ -632,12 +829,13 @@ pub(crate) fn output_length(rng: &mut Rng, number: usize, case: &mut Case) {
 }
 
 fn several(rng: &mut Rng, _: usize, case: &mut Case) {
-    several_of(rng, &[output_length], case);
+    several_of(rng, &[output_length, scratch_length], case);
 }
 
 #[cfg(test)]
 mod tests {
     use super::*;
+    use crate::rule::{judge, working};
     use std::collections::BTreeSet;
 
     /// Sums in any order of what a drawn list of masses holds.
@@ -673,13 +871,14 @@ mod tests {
     #[test]
     fn shapes_are_what_they_say() {
         let mut rng = Rng::new(5);
-        let shapes: [Shape; 6] = [
+        let shapes: [Shape; 7] = [
             all,
             any_share,
             thin,
             touching_balls,
             rows_and_planes,
             near_eight,
+            word_ends,
         ];
         for shape in shapes {
             for grid in 1..=24 {
@@ -694,5 +893,44 @@ mod tests {
             .map(|_| touching_balls(&mut rng, 20).len())
             .collect();
         assert!(balls.iter().filter(|&&size| size > 500).count() > 25);
+    }
+
+    /// The forms, and whether each of a file of six cells is in working form, always or never.
+    #[test]
+    fn forms_are_what_they_say() {
+        let cells = [1, 7, 12, 13, 25, 26].into_iter();
+        let records = cells.map(|number| Record {
+            cell: cell_of(3, number),
+            cauchy_mass: 1.0,
+            elliptic_mass: 0.0,
+        });
+        let file = point_file(Header::cube(3, 1.0), &records.collect::<Vec<_>>());
+        let of = |form: Form, number: u64| {
+            let mut case = exact(file.clone(), 3, 6);
+            make(&mut Rng::new(number), form, &mut case);
+            case
+        };
+        let forms: [(Form, bool); 8] = [
+            (kept, true),
+            (behind, true),
+            (fewer, true),
+            (padded, false),
+            (swapped, false),
+            (doubled, false),
+            (by_x, false),
+            (last_first, false),
+        ];
+        for (place, (form, works)) in forms.into_iter().enumerate() {
+            for number in 0..200 {
+                let case = of(form, number);
+                assert_eq!(judge(&case.file), None);
+                assert_eq!(working(&case.file), works, "form {place}");
+                assert_eq!(case.scratch, if works { 2 } else { 27 });
+            }
+        }
+        let counts: BTreeSet<usize> = (0..200).map(|number| of(fewer, number).records).collect();
+        assert!(counts.into_iter().eq([0, 3, 5]));
+        let more = (0..200).filter(|&number| of(behind, number).file.len() > 64 + 12 * 16);
+        assert!(more.count() > 50);
     }
 }

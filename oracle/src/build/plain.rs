@@ -1,9 +1,13 @@
 //! A second implementation of build, a scan of each box over a lookup, and the faults that tests plant in it.
 
+mod lookup;
+
 use super::Build;
-use crate::bench::{cell, enter, float, points, word, NONE};
+use crate::bench::{cell, float, points, word};
 use crate::ffi::Built;
 use crate::open::plain::Twice;
+use lookup::{Lookup, Scratch};
+use std::ops::Range;
 
 #[derive(Clone, Copy, PartialEq)]
 pub(super) enum Fault {
@@ -22,6 +26,7 @@ pub(super) enum Fault {
     LeafStartsAtZero,
     EmptyCentresAtZero,
     Twice(Twice),
+    Scratch(Scratch),
     // 22: which floats are judged
     LargeNever,
     LargeRootOnly,
@@ -58,8 +63,14 @@ macro_rules! twice_with {
     };
 }
 
+macro_rules! scratch_with {
+    ($scratch:ident $(($cell:literal))?) => {
+        build_with!(Fault::Scratch(Scratch::$scratch $(($cell))?))
+    };
+}
+
 /// Build with each fault, and a kind of case that shows it.
-pub(crate) const FAULTS: [(Build, &str); 36] = [
+pub(crate) const FAULTS: [(Build, &str); 64] = [
     (build_with!(Fault::OneRoot), "full grids"),
     (build_with!(Fault::NoRecordOfAnEmptyChild), "8 and 9 points"),
     (build_with!(Fault::LinkToAnEmptyChild), "8 and 9 points"),
@@ -96,6 +107,43 @@ pub(crate) const FAULTS: [(Build, &str); 36] = [
     (build_with!(Fault::LargeSaidAsNine), "too large"),
     (build_with!(Fault::LargeWrites), "too large"),
     (build_with!(Fault::LargeWithCounts), "too large"),
+    (scratch_with!(CellsAlways), "sizes of scratch"),
+    (scratch_with!(PairsAlways), "sizes of scratch"),
+    (scratch_with!(ByBits), "sizes of scratch"),
+    (scratch_with!(Lesser), "sizes of scratch"),
+    (scratch_with!(RoundedDown), "sizes of scratch"),
+    (scratch_with!(PairMore), "sizes of scratch"),
+    (scratch_with!(WordMore), "sizes of scratch"),
+    (scratch_with!(PadUnjudged), "nearly in working form"),
+    (scratch_with!(PadLowByteOnly), "nearly in working form"),
+    (scratch_with!(PastTheEnd), "nearly in working form"),
+    (scratch_with!(NoRecordIsNot), "nearly in working form"),
+    (scratch_with!(EqualPass), "nearly in working form"),
+    (scratch_with!(XOutermost), "nearly in working form"),
+    (scratch_with!(LastUnjudged), "nearly in working form"),
+    (scratch_with!(Touched), "sizes of scratch"),
+    (scratch_with!(BeforeRecords), "several causes"),
+    (scratch_with!(AfterNeighbours), "nearly in working form"),
+    (scratch_with!(TotalThroughItsWord), "ends of words"),
+    (scratch_with!(TotalWithoutLast), "ends of words"),
+    (scratch_with!(OwnMarkCounted), "ends of words"),
+    (scratch_with!(OneMoreAt(31)), "ends of words"),
+    (scratch_with!(OneMoreAt(32)), "ends of words"),
+    (scratch_with!(OneMoreAt(63)), "ends of words"),
+    (scratch_with!(OneMoreAt(64)), "ends of words"),
+    (scratch_with!(LastOfWordLost), "ends of words"),
+    (scratch_with!(SpareBitsSet), "ends of words"),
+    (scratch_with!(NotCleared), "ends of words"),
+    (scratch_with!(PairsOfAnyOrder), "every grid size"),
+];
+
+/// Some of the faults of 8 and of what stands in scratch, for trees after edits.
+pub(crate) const SHORT: [Build; 5] = [
+    scratch_with!(CellsAlways),
+    scratch_with!(RoundedDown),
+    scratch_with!(NoRecordIsNot),
+    scratch_with!(Touched),
+    scratch_with!(TotalThroughItsWord),
 ];
 
 /// Some of the faults of 22, for trees after edits.
@@ -113,7 +161,7 @@ struct Plain<'a> {
     min: [f64; 3],
     cell: [f64; 3],
     records: &'a [[u8; 16]],
-    lookup: &'a [u32],
+    lookup: Lookup<'a>,
     nodes: Vec<[f64; 20]>,
     besides: Vec<f64>,
     order: Vec<u32>,
@@ -128,27 +176,40 @@ impl Plain<'_> {
         self.fault == fault
     }
 
+    /// The cells of each row of a box, in the order of visiting.
+    fn rows(&self, low: [usize; 3], high: [usize; 3]) -> impl Iterator<Item = Range<usize>> {
+        let grid = self.grid;
+        let rows =
+            (low[2]..high[2]).flat_map(move |z| (low[1]..high[1]).map(move |y| z * grid + y));
+        rows.map(move |row| row * grid + low[0]..row * grid + high[0])
+    }
+
     /// The indices of the box's points in the order of visiting.
     fn visited(&self, low: [usize; 3], high: [usize; 3]) -> Vec<u32> {
-        let mut visited = Vec::new();
-        for z in low[2]..high[2] {
-            for y in low[1]..high[1] {
-                let row = (z * self.grid + y) * self.grid;
-                let cells = &self.lookup[row + low[0]..row + high[0]];
-                visited.extend(cells.iter().filter(|&&index| index != NONE));
-            }
-        }
-        visited
+        let cells = self.rows(low, high).flatten();
+        cells.filter_map(|cell| self.lookup.index(cell)).collect()
+    }
+
+    /// How many points the box has.
+    fn count(&self, low: [usize; 3], high: [usize; 3]) -> usize {
+        let rows = self.rows(low, high);
+        rows.map(|row| self.lookup.count(row)).sum()
+    }
+
+    /// A record by its index: of zeros past the last, where a fault alone looks.
+    fn record(&self, index: u32) -> [u8; 16] {
+        let record = self.records.get(index as usize);
+        record.copied().unwrap_or_default()
     }
 
     /// The sum of a mass, or of 1 where there is none, and its moments.
     fn sums(&self, points: &[u32], mass: Option<usize>) -> (f64, [f64; 3]) {
         let mut sums = (0.0, [0.0; 3]);
         for &index in points {
-            let record = &self.records[index as usize];
-            let mass = mass.map_or(1.0, |at| f64::from(float(record, at)));
+            let record = self.record(index);
+            let mass = mass.map_or(1.0, |at| f64::from(float(&record, at)));
             sums.0 += mass;
-            for (axis, coordinate) in cell(record).into_iter().enumerate() {
+            for (axis, coordinate) in cell(&record).into_iter().enumerate() {
                 sums.1[axis] += coordinate as f64 * mass;
             }
             if self.has(Fault::SumsInBinary32) {
@@ -225,21 +286,22 @@ impl Plain<'_> {
     /// Appends the box's node and those below it; gives its place, or nothing where it has no points.
     fn node(&mut self, low: [usize; 3], high: [usize; 3]) -> Option<usize> {
         let place = self.nodes.len();
-        let points = self.visited(low, high);
+        let (points, count) = (self.visited(low, high), self.count(low, high));
         self.nodes.push(self.floats(&points, low, high));
+        self.nodes[place][19] = count as f64;
         self.besides.push(self.besides(&points));
-        if points.is_empty() {
+        if count == 0 {
             if self.has(Fault::NoRecordOfAnEmptyChild) && place > 0 {
                 self.nodes.pop();
             }
             return self.has(Fault::LinkToAnEmptyChild).then_some(place);
         }
         let widths = axes(|axis| high[axis] - low[axis]);
-        if self.is_leaf(points.len(), widths) {
+        if self.is_leaf(count, widths) {
             if !self.has(Fault::LeafStartsAtZero) {
                 self.nodes[place][11] = self.order.len() as f64;
             }
-            self.nodes[place][15] = points.len() as f64;
+            self.nodes[place][15] = count as f64;
             self.order.extend(points);
             return Some(place);
         }
@@ -259,10 +321,9 @@ impl Plain<'_> {
     /// The greater sum of magnitudes of the two masses, the greatest magnitude of a sum under way, the box's greatest extent.
     fn besides(&self, points: &[u32]) -> f64 {
         let of = |at: usize| {
-            let masses = points.iter().map(|&index| {
-                let record = &self.records[index as usize];
-                f64::from(float(record, at))
-            });
+            let masses = points
+                .iter()
+                .map(|&index| f64::from(float(&self.record(index), at)));
             let sums = masses.clone().scan(0.0, |sum: &mut f64, mass| {
                 *sum += mass;
                 Some(sum.abs())
@@ -346,15 +407,17 @@ pub(super) fn plain_build(fault: Fault, file: &[u8], scratch: &mut [u32], out: &
 }
 
 fn built(fault: Fault, file: &[u8], scratch: &mut [u32], out: &mut [u8]) -> Result<Built, u64> {
-    let (grid, records) = points(file)?;
-    let twice = match fault {
-        Fault::Twice(twice) => twice,
-        _ => Twice::Told,
+    let (twice, lent) = match fault {
+        Fault::Twice(twice) => (twice, Scratch::Sound),
+        Fault::Scratch(lent) => (Twice::Told, lent),
+        _ => (Twice::Told, Scratch::Sound),
     };
+    lent.early(file, scratch.len())?;
+    let (grid, records) = points(file)?;
     let judged = twice.judged(grid, records);
     twice.after(0, judged)?;
-    let lookup = scratch.get_mut(..grid.pow(3)).ok_or(8u64)?;
-    enter(grid, records, lookup);
+    let mut spare = Vec::new();
+    let lookup = lent.laid(file, (grid, records), scratch, &mut spare)?;
     let [min, max] = [32, 44].map(|at| axes(|axis| f64::from(float(file, at + 4 * axis))));
     let mut plain = Plain {
         fault,

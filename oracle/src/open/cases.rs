@@ -590,7 +590,7 @@ pub(crate) fn coordinates_and_masses(rng: &mut Rng, number: usize, case: &mut Ca
 }
 
 /// A short output, or no journal word, or both, once in two.
-fn later_causes(rng: &mut Rng, case: &mut Case) {
+pub(crate) fn later_causes(rng: &mut Rng, case: &mut Case) {
     if one_in(rng, 4) {
         case.out = pick(rng, &[0, 63, case.needed - 1]);
     }
@@ -600,7 +600,7 @@ fn later_causes(rng: &mut Rng, case: &mut Case) {
 }
 
 /// Scratch of every length that a mistaken rule could ask for.
-pub(crate) fn scratch_length(rng: &mut Rng, number: usize, case: &mut Case) {
+fn scratch_length(rng: &mut Rng, number: usize, case: &mut Case) {
     let words = case.grid.pow(3);
     let more = up_to(rng, 100);
     let lengths = [

@@ -1,6 +1,8 @@
-//! 01's rule for tree files, written from its sentences: a box's points are those of the box above it that lie in it.
+//! 01's rule for tree files and 02's for the scratch of build, written from their sentences: a box's points are those of the box above it that lie
+//! in it.
 
-use super::{cell_number, count, float, grid, judge_distinct, narrowed, records, word, Record};
+use super::{cell_number, count, float, grid, judge_distinct, narrowed, records, word};
+use super::{word_per_cell, working, Record};
 use crate::ffi::Built;
 
 pub(crate) const HEADER: usize = 64;
@@ -360,9 +362,23 @@ pub(crate) fn is_finite(tree: &[u8]) -> bool {
         .all(|at| float(tree, at).is_finite())
 }
 
+/// Two words for each 32 cells of a grid, rounded up: one of marks and one running total.
+pub(crate) fn pairs_of_words(g: u64) -> u64 {
+    2 * g.pow(3).div_ceil(32)
+}
+
+/// The words of scratch that build needs for a file that 1 to 7 let pass: two for each 32 cells where it is in working form, else one for each
+/// cell.
+pub(crate) fn scratch_words(file: &[u8]) -> u64 {
+    match working(file) {
+        true => pairs_of_words(grid(file)),
+        false => word_per_cell(file),
+    }
+}
+
 /// Build: 1 to 7, 8, 21, 22, 9; then the tree stands in `out`.
-pub(crate) fn build(file: &[u8], scratch_words: u64, out: &mut [u8]) -> Built {
-    if let Some(cause) = judge_distinct(file, scratch_words) {
+pub(crate) fn build(file: &[u8], lent_words: u64, out: &mut [u8]) -> Built {
+    if let Some(cause) = judge_distinct(file, lent_words, scratch_words) {
         return Built::refused(cause);
     }
     let (tree, built) = tree(file);
@@ -548,15 +564,25 @@ mod tests {
             assert!(kept && (built.answer >= 64 || out.iter().all(|&byte| byte == 0xa5)));
             built
         };
-        assert_eq!(answer(&file, 8, 148), built(148, 1, 1));
-        assert_eq!(answer(&file, 9, 151), built(148, 1, 1));
-        assert_eq!(answer(&file, 8, 147), built(9, 0, 0));
-        assert_eq!(answer(&file, 7, 147), built(8, 0, 0));
+        for words in [2, 3, 7, 8, 9] {
+            assert_eq!(answer(&file, words, 148), built(148, 1, 1));
+            assert_eq!(answer(&file, words, 151), built(148, 1, 1));
+            assert_eq!(answer(&file, words, 147), built(9, 0, 0));
+        }
+        assert_eq!(answer(&file, 1, 148), built(8, 0, 0));
+        assert_eq!(answer(&file, 1, 147), built(8, 0, 0));
         assert_eq!(answer(&file[..79], 0, 0), built(4, 0, 0));
+        let mut padded = file.clone();
+        padded[71] = 1;
+        assert_eq!(answer(&padded, 8, 148), built(148, 1, 1));
+        assert_eq!(answer(&padded, 8, 147), built(9, 0, 0));
+        assert_eq!(answer(&padded, 7, 148), built(8, 0, 0));
+        assert_eq!(answer(&padded, 2, 147), built(8, 0, 0));
         let twice = point_file(Header::cube(2, 2.0), &[record(1, 0, 0); 2]);
         assert_eq!(answer(&twice, 8, 152), built(21, 0, 0));
         assert_eq!(answer(&twice, 8, 0), built(21, 0, 0));
         assert_eq!(answer(&twice, 7, 152), built(8, 0, 0));
+        assert_eq!(answer(&twice, 2, 152), built(8, 0, 0));
         let heavy = |cells: [u16; 2]| {
             let records = cells.map(|x| points::Record {
                 cauchy_mass: f32::MAX,
@@ -565,9 +591,47 @@ mod tests {
             point_file(Header::cube(2, 2.0), &records)
         };
         assert_eq!(answer(&heavy([0, 1]), 8, 152), built(22, 0, 0));
-        assert_eq!(answer(&heavy([0, 1]), 8, 0), built(22, 0, 0));
-        assert_eq!(answer(&heavy([0, 1]), 7, 0), built(8, 0, 0));
+        assert_eq!(answer(&heavy([0, 1]), 2, 0), built(22, 0, 0));
+        assert_eq!(answer(&heavy([0, 1]), 1, 0), built(8, 0, 0));
+        assert_eq!(answer(&heavy([1, 0]), 8, 0), built(22, 0, 0));
+        assert_eq!(answer(&heavy([1, 0]), 7, 0), built(8, 0, 0));
         assert_eq!(answer(&heavy([0, 0]), 8, 0), built(21, 0, 0));
+    }
+
+    /// Pairs of words in working form, a word for each cell else; at g 1 the pair is more. A pad, the order and a cell twice count, bytes
+    /// past the records do not.
+    #[test]
+    fn words_by_form() {
+        let of = |g: u32, records: &[points::Record]| {
+            scratch_words(&point_file(Header::cube(g, 2.0), records))
+        };
+        for (g, pairs) in [
+            (1, 2),
+            (2, 2),
+            (3, 2),
+            (4, 4),
+            (5, 8),
+            (10, 64),
+            (16, 256),
+            (40, 4_000),
+            (41, 4_308),
+            (256, 1_048_576),
+        ] {
+            let last = record(g as u16 - 1, 0, 0);
+            assert_eq!([of(g, &[]), of(g, &[last])], [pairs; 2], "g {g}");
+            assert_eq!(of(g, &[last; 2]), u64::from(g).pow(3), "g {g}");
+        }
+        let [first, second] = [record(1, 0, 0), record(0, 1, 0)];
+        assert_eq!([of(3, &[first, second]), of(3, &[second, first])], [2, 27]);
+        let file = point_file(Header::cube(3, 2.0), &[second]);
+        for pad in [70, 71] {
+            let mut file = file.clone();
+            file[pad] = 0x80;
+            assert_eq!(scratch_words(&file), 27);
+        }
+        let behind = point_file(Header::cube(3, 2.0), &[first]);
+        let behind = [&file[..], &behind[64..], &[0xee; 20]].concat();
+        assert_eq!(scratch_words(&behind), 2);
     }
 
     /// Either sum, of either sign, from the threshold on; a centre of mass far outside; never the box.

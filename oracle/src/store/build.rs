@@ -6,7 +6,7 @@
 
 use super::blocks::{bytes_of, in_turn, kept, laid, lend, unlike, words_of, Block};
 use crate::build::cases::KINDS;
-use crate::build::{unlike_the_original, Build};
+use crate::build::{scratch_cases, unlike_the_original, Build};
 use crate::ffi::{self, Built};
 use crate::open::cases::Case;
 use crate::open::out_byte;
@@ -22,7 +22,7 @@ const FILE: usize = 64;
 const OUT_BEFORE: usize = FILE + FILE_PART;
 const OUT_AFTER: usize = OUT_BEFORE + OUT_PART;
 
-const SEED: u64 = 0x6275_6948;
+const SEED: u64 = 0x6275_694b;
 
 /// One call with its answer.
 #[derive(Clone)]
@@ -46,9 +46,11 @@ impl Block for Stored {
     const LENGTH: usize = 8192;
     type Case = Case;
 
-    /// The kinds in turn, each with the next of its cases that fits.
+    /// The fixed cases of scratch that fit, then the kinds in turn, each with the next of its cases that does.
     fn cases() -> Vec<Case> {
-        in_turn(&KINDS, SEED, fits, CASES)
+        let mut cases: Vec<Case> = scratch_cases().filter(fits).collect();
+        cases.extend(in_turn(&KINDS, SEED, fits, CASES - cases.len()));
+        cases
     }
 
     /// The tree and the counts are the original's where it is at hand.
@@ -161,6 +163,31 @@ mod tests {
         assert!(answers[&64] > 150, "{answers:?}");
         assert!(grids.keys().eq(&[1, 2, 3, 4, 5, 6]), "{grids:?}");
         assert!(trees.len() > 8, "{trees:?}");
+    }
+
+    /// Files in working form with just the words that they need, with a word less and with one for each cell; others with these and with a word
+    /// less; each of them at every grid size.
+    #[test]
+    fn cases_hold_both_sizes() {
+        let told = |case: &Case| {
+            let [pairs, cells] = [case.grid.pow(3).div_ceil(32) * 2, case.grid.pow(3)];
+            let sizes = [pairs, pairs - 1, cells, cells - 1];
+            let size = sizes.iter().position(|&size| size == case.scratch)?;
+            let good = rule::judge(&case.file).is_none();
+            good.then(|| (rule::working(&case.file), size))
+        };
+        let cases = Stored::cases();
+        let seen = tally(cases.iter().filter_map(told));
+        for met in [
+            (true, 0),
+            (true, 1),
+            (true, 2),
+            (false, 0),
+            (false, 2),
+            (false, 3),
+        ] {
+            assert!(seen[&met] >= 8, "{seen:?}");
+        }
     }
 
     /// Blocks are laid out as the head of this file says, and are read back.

@@ -23,9 +23,10 @@ pub(crate) fn costliest(args: &Args) -> Result<(), Failure> {
 
 fn in_words(grid: u32, cost: Cost) -> String {
     format!(
-        "grid            {grid} ({} cells)\n{}point file      {} bytes, with a point in every cell\n",
+        "grid            {grid} ({} cells)\n{}{} for a file in working form\npoint file      {} bytes, with a point in every cell\n",
         u64::from(grid).pow(3),
         tree_at_most(cost),
+        building_takes(cost.scratch_bytes),
         cost.file_bytes
     )
 }
@@ -34,4 +35,9 @@ fn in_words(grid: u32, cost: Cost) -> String {
 pub(crate) fn tree_at_most(cost: Cost) -> String {
     let Cost { nodes, bytes, .. } = cost;
     format!("tree            at most {nodes} nodes, {bytes} bytes at this grid\n")
+}
+
+/// The line of how much scratch memory building takes, without its end.
+pub(crate) fn building_takes(bytes: usize) -> String {
+    format!("building        takes {bytes} bytes of scratch")
 }

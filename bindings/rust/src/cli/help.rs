@@ -126,14 +126,18 @@ Builds the tree (RTM1, version 2) of a point file, in working form or not; one t
 fold. A file is refused (22), too, where a float of its tree is too large, from 3.4e38 in magnitude: masses that add up to
 that, or that nearly cancel, so that their centre lies so far away. The node, its cells and the heaviest of them are told,
 and nothing is written. With --force over another point file or a journal.
+
+Besides the file and the tree, building takes scratch memory: 8 bytes for every 32 cells where the file is in working form,
+4 MiB at grid 256, else 4 bytes for each cell, 64 MiB, as open and fold do. info tells how much a file takes.
 ";
 
 const COSTLIEST: &str = "\
 mascon costliest GRID [-o OUT] [--force]
 
 Tells what the most costly model of a grid takes, so that room can be reserved before there is a file: the greatest node
-count of its trees and the length of the tree that has it, both reached with a point in every cell, and the length of that
-point file. Every other point file of the grid that is accepted has at most as many nodes and bytes in its tree.
+count of its trees and the length of the tree that has it, both reached with a point in every cell, the scratch memory that
+building it takes, and the length of that point file. Every other point file of the grid that is accepted has at most as
+many nodes and bytes in its tree, and takes as much scratch where it is in working form.
 
   GRID            cells on each axis, 1 to 256
   -o OUT          write the point file (RYM1): every cell in working form, all masses 1, the box from 0 to 1 m,
@@ -144,7 +148,8 @@ point file. Every other point file of the grid that is accepted has at most as m
 const INFO: &str = "\
 mascon info FILE
 
-Counts, masses, box and depth of a point file (RYM1) or tree (RTM1); of a point file also what its tree takes at most.
+Counts, masses, box and depth of a point file (RYM1) or tree (RTM1); of a point file also what its tree takes at most, and
+how much scratch memory building it takes.
 ";
 
 const CHECK: &str = "\

@@ -1,7 +1,7 @@
 //! The commands info, check and draw.
 
 use super::args::Args;
-use super::cost::tree_at_most;
+use super::cost::{building_takes, tree_at_most};
 use super::list::{outside_box, outside_grid};
 use super::{
     and_more, heaviest, output_apart, print, read_model, reading, say, shown, tell_apart, write,
@@ -90,7 +90,8 @@ fn points_info(text: &mut String, model: &Model, bytes: &[u8]) {
         "points          {} ({share:.1} % of the cells)",
         model.len()
     );
-    let form = if check_working_form(bytes, 0).is_clean() {
+    let working = check_working_form(bytes, 0).is_clean();
+    let form = if working {
         "yes".to_string()
     } else {
         format!("no: {records} records, their order or pads; `mascon open` writes it")
@@ -145,6 +146,19 @@ fn points_info(text: &mut String, model: &Model, bytes: &[u8]) {
         );
     }
     text.push_str(&Cost::of(grid).map_or(String::new(), tree_at_most));
+    building_note(text, model, working);
+}
+
+/// How much scratch building the file takes: where it is not in working form, a word for each cell.
+fn building_note(text: &mut String, model: &Model, working: bool) {
+    let small = model.scratch_bytes();
+    let line = if working {
+        building_takes(small)
+    } else {
+        let words = (model.grid() as usize).pow(3);
+        building_takes(4 * words) + &format!(", in working form {small}")
+    };
+    let _ = writeln!(text, "{line}");
 }
 
 /// Bytes after the last record are no fault, and no matter of working form.

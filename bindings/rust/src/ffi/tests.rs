@@ -1,5 +1,7 @@
 //! Calls in other floating-point modes, and with NULL for what is empty.
 
+mod scratch;
+
 use super::mode::{in_default_mode, load, read};
 use super::{length, raw};
 use crate::check::{check_floats, check_points, check_tree};
@@ -426,8 +428,8 @@ fn null_with_length_0() {
 #[test]
 fn null_beside_others() {
     let mut file = tiny();
-    let mut word = [0_u32];
-    let (at, length, words) = (file.as_mut_ptr(), file.len(), word.as_mut_ptr());
+    let mut words = [0_u32; 2];
+    let (at, length, words) = (file.as_mut_ptr(), file.len(), words.as_mut_ptr());
     let answers = unsafe {
         [
             raw::mascon_open(at, length, null_mut(), 0, null_mut(), 0, null_mut(), 0),
@@ -439,9 +441,10 @@ fn null_beside_others() {
             raw::mascon_undo(at, length, null_mut(), 0),
             raw::mascon_build(at, length, null_mut(), 0, null_mut(), 0).answer,
             raw::mascon_build(at, length, words, 1, null_mut(), 0).answer,
+            raw::mascon_build(at, length, words, 2, null_mut(), 0).answer,
         ]
     };
-    assert_eq!(answers, [8, 9, 8, 9, 11, 11, 11, 8, 9]);
+    assert_eq!(answers, [8, 9, 8, 9, 11, 11, 11, 8, 8, 9]);
     let (mesh, _) = shapes::contact_binary(6);
     let right = build_mascon(&mesh, &[], &[], 1e9, 1.0, 8).unwrap();
     assert_eq!(raw_fill(&mesh, null(), 0), right);
@@ -480,12 +483,22 @@ fn a_float_too_large_beside_short_buffers() {
     model.put(1, 1, 1, f32::MAX, 1.0).unwrap();
     let large = model.as_bytes();
     let twice = [&large[..80], &large[64..80]].concat();
+    let swapped = [&large[..64], &large[80..], &large[64..80]].concat();
     for (file, words, length, wanted) in [
-        (large, 7, 1000, 8),
+        (large, 0, 1000, 8),
+        (large, 1, 1000, 8),
+        (large, 2, 0, 22),
+        (large, 2, 1000, 22),
+        (large, 7, 1000, 22),
         (large, 8, 0, 22),
         (large, 8, 63, 22),
         (large, 8, 151, 22),
         (large, 8, 1000, 22),
+        (&swapped[..], 2, 1000, 8),
+        (&swapped[..], 7, 1000, 8),
+        (&swapped[..], 8, 0, 22),
+        (&swapped[..], 8, 1000, 22),
+        (&twice[..], 2, 0, 8),
         (&twice[..], 7, 0, 8),
         (&twice[..], 8, 0, 21),
         (&twice[..], 8, 1000, 21),
@@ -504,6 +517,7 @@ fn a_float_too_large_beside_short_buffers() {
         let answer = (built.answer, built.nodes, built.order);
         assert_eq!(answer, (wanted, 0, 0), "{words} words, {length} bytes");
         assert_eq!(out, vec![0xa5; length]);
+        assert!(wanted != 8 || scratch == vec![7; words]);
     }
 }
 

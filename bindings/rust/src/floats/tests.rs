@@ -1,14 +1,11 @@
 //! The walk held against the library.
 
-#[path = "../../tests/common/rng.rs"]
-mod rng;
-
 use super::{each_too_large, first_too_large, greatest, Field, Nodes};
 use crate::check::check_points;
 use crate::points::{float_at, HEADER, RECORD};
+use crate::rng::Rng;
 use crate::tree::NODE;
 use crate::{narrow, shapes, Model, Refusal, Tree};
-use rng::Rng;
 use std::collections::HashSet;
 
 /// Masses that add up to about the end of binary32, that cancel, and others.

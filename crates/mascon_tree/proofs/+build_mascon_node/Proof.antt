@@ -16,7 +16,7 @@ use Rattle.rtm1.specs.Tree.{Tree, empty, leaf, split, kindOf, kindAt, indices, 
 use Rattle.rtm1.proofs.Boxes.{Halves, halves}
 use Rattle.rtm1.proofs.Growth.{tree-empty}
 use Rattle.rtm1.proofs.Order.{empty-sums}
-use Rattle.sums.proofs.Slots.{grid-few}
+use Rattle.runs.proofs.Runs.{grid-few}
 use Rattle.mascon_tree.specs.Written.{Space}
 use Rattle.rtm1.proofs.Boxes.{within-most}
 use Rattle.mascon_tree.proofs.Counted.{leaf-is, split-is}
@@ -34,7 +34,7 @@ use Rattle.mascon_tree.proofs.+build_mascon_node.{statement}
 use Rattle.mascon_tree.proofs.+build_mascon_node.Tie.{close}
 
 abbrev μ : Measures 3 kinds.ps ℕ
-μ κs a = cells (a .1 .1 .1 .1 .1 .1 .0)
+μ κs a = cells (a .1 .1 .1 .1 .1 .1 .1 .0)
 
 -- what the function is given at the measure t, and what a call of it asks below t
 abbrev given : ℕ → In 3 kinds.ps

@@ -74,11 +74,11 @@ build-mascon-node-requires c κs =
     let header = c .before .before .before .before .out-words in
     let nodes = root-nodes _ _ frame _ judged _ (told .1) in
     let ordered = root-ordered _ _ frame _ judged _ (told .1) in
-    let few = root-few _ _ _ _ (s .pre) (c .whole .ensures) in
-    let short = root-short _ _ _ _ (s .pre) (c .whole .ensures) in
+    let few = root-few _ _ _ _ _ (s .pre) (c .whole .ensures) in
+    let short = root-short _ _ _ _ _ (s .pre) (c .whole .ensures) in
     let room = root-room (s .args .file .now) (s .args .out .now) (root-small _ _ frame _ judged _ (told .1)) _ _ nodes ordered (c .before .before .before .before .before .before .before .if1 .left) (c .before .before .before .before .before .before .before .before .before .before .before .before .before .before .frame-of .result) frame
     (omega (arith, few, nodes)) (omega (arith, short, ordered)) (header .last .0) (header .kept .0) in
-    (s .pre, (root-within _ _ _ _ (s .pre) (c .whole .ensures), subst (λ (t : Tree). Space true (header .last .0) (64 + 80 * told .0 .0 .node) 0 0 (c .before .before .before .before .before .before .before .before .before .before .before .before .before .before .frame-of .result) t) (sym (root-tree _ _ _ _ (s .pre) (c .whole .ensures))) room))
+    (s .pre, (root-within _ _ _ _ _ (s .pre) (c .whole .ensures), subst (λ (t : Tree). Space true (header .last .0) (64 + 80 * told .0 .0 .node) 0 0 (c .before .before .before .before .before .before .before .before .before .before .before .before .before .before .frame-of .result) t) (sym (root-tree _ _ _ _ _ (s .pre) (c .whole .ensures))) room))
 
 enum-known-built : tie.Need-enum-known-built
 enum-known-built c = search needs
@@ -97,13 +97,13 @@ returns-3 c =
     let judged = c .before .before .before .before .before .before .before .before .before .before .before .before .before .before .before .before .before .before .judge-tree .ensures in
     let wrote = c .before .before .before .before .build-mascon-node in
     way-never (s .args .file .now) (s .args .out .now) (root-small _ _ frame _ judged _ (told .1)) _ _ (root-nodes _ _ frame _ judged _ (told .1)) (root-ordered _ _ frame _ judged _ (told .1)) (c .before .before .before .before .before .before .before .before .before .before .before .before .if1 .left) (c .before .before .before .before .before .before .before .before .before .before .before .before .before .before .before .before .before .before .before .frame-of .result) frame
-    (c .before .before .before .before .before .before .before .before .before .out-words .last .0) (wrote .last .0) (written-as (root-tree _ _ _ _ (s .pre) (c .before .before .before .before .before .whole .ensures)) (c .enum-told2 .given .1) (wrote .ensures))
-
-cast-t26 : tie.Need-cast-t26
-cast-t26 c = search needs
+    (c .before .before .before .before .before .before .before .before .before .out-words .last .0) (wrote .last .0) (written-as (root-tree _ _ _ _ _ (s .pre) (c .before .before .before .before .before .whole .ensures)) (c .enum-told2 .given .1) (wrote .ensures))
 
 cast-t27 : tie.Need-cast-t27
 cast-t27 c = search needs
+
+cast-t28 : tie.Need-cast-t28
+cast-t28 c = search needs
 
 same-length-2 : tie.Need-same-length-2
 same-length-2 c = search needs
@@ -118,7 +118,7 @@ returns-4 c =
     let wrote = c .before .before .before .before .before .before .before .build-mascon-node in
     way-done (s .args .file .now) (s .args .out .now) (root-small _ _ frame _ judged _ (told .1)) _ _ (root-nodes _ _ frame _ judged _ (told .1)) (root-ordered _ _ frame _ judged _ (told .1)) (c .before .before .before .before .before .before .before .before .before .before .before .before .before .before .before .if1 .left) (c .before .before .before .before .before .before .before .before .before .before .before .before .before .before .before .before .before .before .before .before .before .before .frame-of .result) frame
     (header .last .0) (wrote .last .0) _ (header .ensures ∙ ap (λ (ws : List ℕ). splice (s .args .out .now) 0 (wordsBytes ws)) (c .before .before .before .before .before .before .before .before .before .before .before .before .before .before .header-words .ensures))
-    (written-as (root-tree _ _ _ _ (s .pre) (c .before .before .before .before .before .before .before .before .whole .ensures)) (c .before .before .before .built .given .1) (wrote .ensures))
+    (written-as (root-tree _ _ _ _ _ (s .pre) (c .before .before .before .before .before .before .before .before .whole .ensures)) (c .before .before .before .built .given .1) (wrote .ensures))
 
 pub build-looked-spec : {M : Type 1} → statement M
 build-looked-spec =
@@ -144,7 +144,7 @@ build-looked-spec =
     enum-told-2
     same-length
     returns-3
-    cast-t26
     cast-t27
+    cast-t28
     same-length-2
     returns-4)

@@ -17,11 +17,11 @@ whole-requires c κs = search needs
 build-mascon-node-requires : tie.Need-build-mascon-node-requires
 build-mascon-node-requires c κs =
     let ready = c .before .before .before .before .pre in
-    (ready, (root-within _ _ _ _ ready (c .whole .ensures), root-judged _ _ _ _ ready (c .whole .ensures) (0 ∷ []) (c .before .before .before .before .args .frame)))
+    (ready, (root-within _ _ _ _ _ ready (c .whole .ensures), root-judged _ _ _ _ _ ready (c .whole .ensures) (0 ∷ []) (c .before .before .before .before .args .frame)))
 
 returns : tie.Need-returns
 returns c =
-    c .before .build-mascon-node .ensures .judged ∙ ap (λ (t : Tree). judgedOf (c .before .before .before .before .before .before .args .frame) t 0 0) (root-tree _ _ _ _ (c .before .before .before .before .before .before .pre) (c .before .before .whole .ensures))
+    c .before .build-mascon-node .ensures .judged ∙ ap (λ (t : Tree). judgedOf (c .before .before .before .before .before .before .args .frame) t 0 0) (root-tree _ _ _ _ _ (c .before .before .before .before .before .before .pre) (c .before .before .whole .ensures))
 
 pub judge-tree-spec : {M : Type 1} → statement M
 judge-tree-spec =

@@ -10,17 +10,17 @@ use Rattle.rtm1.specs.Visit.{nothing, plane, visit}
 use Rattle.rtm1.specs.Tree.{sumsOf}
 use Rattle.rtm1.proofs.Visit.{total-count}
 use Rattle.sums.proofs.Turns.{Rest, sums-turn, sums-end}
-use Rattle.sums.proofs.Slots.{grid-few}
+use Rattle.runs.proofs.Runs.{grid-few}
 use Rattle.sums.proofs.sums_of.Statement.{statement}
 use Rattle.sums.proofs.sums_of.Tie as tie
 
 abbrev Inv-loop : tie.InvT-loop
-Inv-loop words file g b t₀ z₀ end t z =
+Inv-loop words file form g b t₀ z₀ end t z =
     (z₀ ≤ z) × (z ≤ end) × (t .count ≤ t₀ .count + 65536 * (z - z₀))
     × (Rest (plane (look file) g b) end z t ≡ Rest (plane (look file) g b) end z₀ t₀)
 
 abbrev μ-loop : tie.MeasureT-loop
-μ-loop words file g b t₀ z₀ end t z = end - z
+μ-loop words file form g b t₀ z₀ end t z = end - z
 
 nothing-requires : tie.Need-nothing-requires Inv-loop μ-loop
 nothing-requires c κs = search needs

@@ -5,17 +5,17 @@ use native.Mathlib.Omega.{arith}
 use Rattle.rym1.specs.Cells.{look}
 use Rattle.rtm1.specs.Visit.{row}
 use Rattle.sums.proofs.Turns.{Rest, sums-turn, sums-end}
-use Rattle.sums.proofs.Slots.{grid-few}
+use Rattle.runs.proofs.Runs.{grid-few}
 use Rattle.sums.proofs.visit_plane.Statement.{statement}
 use Rattle.sums.proofs.visit_plane.Tie as tie
 
 abbrev Inv-loop : tie.InvT-loop
-Inv-loop words file g b z t₀ y₀ end t y =
+Inv-loop words file form g b z t₀ y₀ end t y =
     (y₀ ≤ y) × (y ≤ end) × (t .count ≤ t₀ .count + 256 * (y - y₀))
     × (Rest (row (look file) g b z) end y t ≡ Rest (row (look file) g b z) end y₀ t₀)
 
 abbrev μ-loop : tie.MeasureT-loop
-μ-loop words file g b z t₀ y₀ end t y = end - y
+μ-loop words file form g b z t₀ y₀ end t y = end - y
 
 loop-holds : tie.Need-loop-holds Inv-loop μ-loop
 loop-holds c = (omega arith, omega (arith, c .before .before .pre .1 .0 .proper .in-y), omega arith, refl)
