@@ -34,7 +34,7 @@ use Rattle.mascon_tree.proofs.+build_mascon_node.{statement}
 use Rattle.mascon_tree.proofs.+build_mascon_node.Tie.{close}
 
 abbrev μ : Measures 3 kinds.ps ℕ
-μ κs a = cells (a .1 .1 .1 .1 .1 .1 .1 .0)
+μ κs a = cells (a .1 .1 .1 .1 .0)
 
 -- what the function is given at the measure t, and what a call of it asks below t
 abbrev given : ℕ → In 3 kinds.ps
@@ -70,17 +70,17 @@ module _ (t : ℕ) where
   look s = file.look (s .args .file .now)
 
   abbrev g : Begin → ℕ
-  g s = s .args .g
+  g s = s .args .set .g
 
   abbrev b : Begin → Cells
   b s = s .args .b
 
   -- the places' ways back to the start
   abbrev from-kind : lts.After-kind-of (calls t) (given t) build-mascon-node.Post → Begin
-  from-kind c = c .before .before .before .before .before
+  from-kind c = c .before .before .before .before .before .before
 
   abbrev from-halves : lts.After-halves (calls t) (given t) build-mascon-node.Post → Begin
-  from-halves c = c .before .before .before .before .before .before .before .before
+  from-halves c = c .before .before .before .before .before .before .before .before .before
 
   within : (s : Begin) → Within 256 (b s)
   within s = within-most (g s) (b s) (grid-few (s .pre .1 .0)) (s .pre .1 .1 .0)
@@ -116,7 +116,7 @@ module _ (t : ℕ) where
       split-is (look s) (g s) (b s) (s .pre .1 .1 .0) _ _ (c .halves .ensures .0) (c .halves .ensures .1) _ (c .before .before .before .before .sums-of .ensures .0) (kind-is (told .before .before) ∙ told .enum-told3 .given .1)
 
   abbrev Asks : Begin → Tree → Type 0
-  Asks s u = Space (s .args .write) (s .args .out .now) (s .args .at) (s .args .node) (s .args .before) (s .args .frame) u
+  Asks s u = Space (s .args .set .write) (s .args .out .now) (s .args .set .at) (s .args .node) (s .args .before) (s .args .set .frame) u
 
   space : (c : lts.After-halves (calls t) (given t) build-mascon-node.Post) → Asks (from-halves c) (The-split c)
   space c = subst (Asks (from-halves c)) (the-split c) (from-halves c .pre .1 .1 .1)
@@ -124,17 +124,17 @@ module _ (t : ℕ) where
   -- ---- the needs
 
   sums-of-requires : lts.Need-sums-of-requires (calls t) (given t) build-mascon-node.Post
-  sums-of-requires c κs = (c .before .before .before .pre .1 .0, c .before .before .before .pre .1 .1 .0)
+  sums-of-requires c κs = (c .before .before .before .before .pre .1 .0, c .before .before .before .before .pre .1 .1 .0)
 
   kind-of-requires : lts.Need-kind-of-requires (calls t) (given t) build-mascon-node.Post
-  kind-of-requires c κs = c .before .before .before .before .pre .1 .1 .0 .proper
+  kind-of-requires c κs = c .before .before .before .before .before .pre .1 .1 .0 .proper
 
   enum-told : lts.Need-enum-told (calls t) (given t) build-mascon-node.Post
   enum-told c = search needs
 
   out-empty-requires : lts.Need-out-empty-requires (calls t) (given t) build-mascon-node.Post
   out-empty-requires c κs =
-      let s = c .before .before .before .before .before .before .before .before in
+      let s = c .before .before .before .before .before .before .before .before .before in
       let room = s .pre .1 .1 .1 in
       (within s, (node-room _ _ _ _ _ _ _ room, node-low _ _ _ _ _ _ _ room))
 
@@ -143,18 +143,18 @@ module _ (t : ℕ) where
 
   out-leaf-requires : lts.Need-out-leaf-requires (calls t) (given t) build-mascon-node.Post
   out-leaf-requires c κs =
-      let s = c .before .before .before .before .before .before .before .before in
+      let s = c .before .before .before .before .before .before .before .before .before in
       (s .pre .1 .0, (s .pre .1 .1 .0, (c .before .before .before .before .sums-of .ensures .1, subst (Asks s) (the-leaf (c .before)) (s .pre .1 .1 .1))))
 
   enum-told-3 : lts.Need-enum-told-3 (calls t) (given t) build-mascon-node.Post
   enum-told-3 c = search needs
 
   halves-requires : lts.Need-halves-requires (calls t) (given t) build-mascon-node.Post
-  halves-requires c κs = c .before .before .before .before .before .before .before .pre .1 .1 .0 .proper
+  halves-requires c κs = c .before .before .before .before .before .before .before .before .pre .1 .1 .0 .proper
 
   add-build-mascon-node : lts.Need-add-build-mascon-node (calls t) (given t) build-mascon-node.Post
   add-build-mascon-node c =
-      let few = node-low _ _ _ _ _ _ _ (c .before .before .before .before .before .before .before .before .before .before .before .pre .1 .1 .1) in
+      let few = node-low _ _ _ _ _ _ _ (c .before .before .before .before .before .before .before .before .before .before .before .before .pre .1 .1 .1) in
       record { fits = omega (arith, few) }
 
   build-mascon-node-requires : lts.Need-build-mascon-node-requires (calls t) (given t) build-mascon-node.Post
@@ -211,7 +211,7 @@ module _ (t : ℕ) where
 
   out-split-requires : lts.Need-out-split-requires (calls t) (given t) build-mascon-node.Post
   out-split-requires c κs =
-      let s = c .before .before .before .before .before .before .before .before .before .before .before .before .before .before .before .before .before .before .before .before .before .before .before .before .before in
+      let s = c .before .before .before .before .before .before .before .before .before .before .before .before .before .before .before .before .before .before .before .before .before .before .before .before .before .before in
       let room = s .pre .1 .1 .1 in
       let same = c .before .before .before .before .before .before .build-mascon-node2 .kept .0 ∙ c .before .before .before .before .before .before .before .before .before .before .before .before .before .build-mascon-node .kept .0 in
       (within s, (λ w. omega (arith, node-room _ _ _ _ _ _ _ room w, same), node-low _ _ _ _ _ _ _ room))
@@ -221,11 +221,11 @@ module _ (t : ℕ) where
 
   returns-3 : lts.Need-returns-3 (calls t) (given t) build-mascon-node.Post
   returns-3 c =
-      let s = c .before .before .before .before .before .before .before .before .before .before .before in
+      let s = c .before .before .before .before .before .before .before .before .before .before .before .before in
       let told = c .before .before .before .before in
       let kind = kind-is (told .before .before) ∙ told .enum-told .given .1 in
       written-as (sym (the-empty told)) refl
-      (written-empty _ _ (s .args .at) _ _ _ _ _ _ _ (c .before .before .before .before .before .before .before .sums-of .ensures .0 ∙ empty-sums (look s) (g s) (b s) kind) (subst (Asks s) (the-empty told) (s .pre .1 .1 .1)) (c .before .before .out-empty .ensures))
+      (written-empty _ _ (s .args .set .at) _ _ _ _ _ _ _ (c .before .before .before .before .before .before .before .sums-of .ensures .0 ∙ empty-sums (look s) (g s) (b s) kind) (subst (Asks s) (the-empty told) (s .pre .1 .1 .1)) (c .before .before .out-empty .ensures))
 
   same-length-4 : lts.Need-same-length-4 (calls t) (given t) build-mascon-node.Post
   same-length-4 c = c .before .before .out-leaf .kept .0

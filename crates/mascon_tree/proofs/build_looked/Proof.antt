@@ -99,11 +99,11 @@ returns-3 c =
     way-never (s .args .file .now) (s .args .out .now) (root-small _ _ frame _ judged _ (told .1)) _ _ (root-nodes _ _ frame _ judged _ (told .1)) (root-ordered _ _ frame _ judged _ (told .1)) (c .before .before .before .before .before .before .before .before .before .before .before .before .if1 .left) (c .before .before .before .before .before .before .before .before .before .before .before .before .before .before .before .before .before .before .before .frame-of .result) frame
     (c .before .before .before .before .before .before .before .before .before .out-words .last .0) (wrote .last .0) (written-as (root-tree _ _ _ _ _ (s .pre) (c .before .before .before .before .before .whole .ensures)) (c .enum-told2 .given .1) (wrote .ensures))
 
-cast-t27 : tie.Need-cast-t27
-cast-t27 c = search needs
-
 cast-t28 : tie.Need-cast-t28
 cast-t28 c = search needs
+
+cast-t29 : tie.Need-cast-t29
+cast-t29 c = search needs
 
 same-length-2 : tie.Need-same-length-2
 same-length-2 c = search needs
@@ -144,7 +144,7 @@ build-looked-spec =
     enum-told-2
     same-length
     returns-3
-    cast-t27
     cast-t28
+    cast-t29
     same-length-2
     returns-4)
