@@ -33,8 +33,8 @@ use std::process::ExitCode;
 
 const USAGE: &str =
     "usage: oracle check [all|narrow|open|fold|build|costliest|edit|fill|inside|stored|treeinfo|original]
-       oracle store narrow|open|build|edit|ray|inside|fill|cost|costliest FILE
-       oracle verify-stored [narrow|open|build|edit|ray|inside|fill|cost|costliest] FILE
+       oracle store narrow|open|build|edit|ray|inside|fill|cost|costliest|next FILE
+       oracle verify-stored [narrow|open|build|edit|ray|inside|fill|cost|costliest|next] FILE
        oracle bench open|build|costliest|edit|inside|fill";
 
 const CHECKS: [&str; 12] = [

@@ -3,6 +3,7 @@
 pub(crate) mod costliest;
 pub(crate) mod edit;
 pub(crate) mod fill;
+pub(crate) mod next;
 pub(crate) mod tree;
 
 use std::collections::{BTreeMap, BTreeSet};

@@ -4,7 +4,7 @@
 //! that Rust gives, little endian; a NaN gives 0x7fc00000, and one that is not finite stands for too large.
 //! `open.bin`: see `store/open.rs`. `build.bin`: see `store/build.rs`.
 //! `edit.bin`: see `store/edit.rs`. `ray.bin`: see `store/ray.rs`. `inside.bin`: see `store/inside.rs`. `fill.bin`: see `store/fill.rs`.
-//! `cost.bin`: see `store/cost.rs`. `costliest.bin`: see `store/costliest.rs`.
+//! `cost.bin`: see `store/cost.rs`. `costliest.bin`: see `store/costliest.rs`. `next.bin`: see `store/next.rs`.
 
 mod blocks;
 mod build;
@@ -13,6 +13,7 @@ mod costliest;
 mod edit;
 mod fill;
 mod inside;
+pub(crate) mod next;
 mod open;
 mod ray;
 
@@ -118,6 +119,7 @@ fn bytes_of(kind: &str) -> Result<Vec<u8>, String> {
         "fill" => Ok(blocks::bytes::<fill::Stored>()),
         "cost" => Ok(blocks::bytes::<cost::Stored>()),
         "costliest" => Ok(blocks::bytes::<costliest::Stored>()),
+        "next" => Ok(blocks::bytes::<next::Stored>()),
         _ => Err(format!("no stored answers of the kind {kind:?}")),
     }
 }
@@ -164,6 +166,7 @@ pub(crate) fn check(report: &mut Report) {
     check_file(report, "fill.bin", blocks::replay::<fill::Stored>);
     check_file(report, "cost.bin", blocks::replay::<cost::Stored>);
     check_file(report, "costliest.bin", blocks::replay::<costliest::Stored>);
+    check_file(report, "next.bin", blocks::replay::<next::Stored>);
 }
 
 fn check_file(report: &mut Report, name: &str, replay: fn(&[u8]) -> Found) {
@@ -224,6 +227,7 @@ mod tests {
             "fill",
             "cost",
             "costliest",
+            "next",
         ] {
             verify(kind, &folder().join(format!("{kind}.bin"))).unwrap();
         }

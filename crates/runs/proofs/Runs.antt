@@ -1,5 +1,5 @@
 -- In a file in working form a row's points are records on end: from the total at its first cell on, as many as it has marks. Assumes nothing.
-use Prim.Native.Nat.{ℕ, zero, suc, _+_, _-_, _*_, _/_, _%_, _≤_, _<_}
+use Prim.Native.Nat.{ℕ, zero, suc, _+_, _-_, _*_, _%_, _≤_, _<_}
 use mathlib.Core.Path.{_≡_, refl, sym, ap, _∙_}
 use mathlib.Core.Bool.{Bool, true, false, cond}
 use mathlib.Core.Option.{Option, none, some}
@@ -10,9 +10,7 @@ use lib.ListN.{length}
 use lib.Arith.{digits-lt, digits-mod}
 use lib.Dec.{eqb}
 use borrow.Author.Tests.{eqb-true, eq-eqb}
-use lib.Ieee.{binary32, ofBits}
 use Rattle.rym1.specs.Bytes.{word16, word32}
-use Rattle.rym1.specs.declared.Point.{Point}
 use Rattle.rym1.specs.File.{grid, count, pointAt, points, cell, cellOf, cube, groups, fileCause, workCause}
 use Rattle.rym1.specs.Cells.{Masses, Slot, vacant, held, look, massesOf, massMap, records}
 use Rattle.rym1.specs.Open.{occupied, occupiedOf}
@@ -20,9 +18,15 @@ use Rattle.rym1.proofs.Opened.{working-count}
 use Rattle.rym1.proofs.Accepted.{Inside, accepted, accepted-points, inside-at}
 use Rattle.rym1.proofs.Cells.{cell-low, slotAt, HeldAt, held-at}
 use Rattle.lookup.specs.Lookup.{slotWord}
-use Rattle.marks.specs.Marks.{one, mark, tally}
+use Rattle.marks.specs.Marks.{one, mark, tally, Entered}
 use Rattle.marks.proofs.Digits.{tally-more}
 use Rattle.marks.proofs.Index.{look-marked, tally-records}
+use Rattle.search.specs.declared.Search.{Search}
+use Rattle.search.specs.declared.Search.the-variants.{Nothing}
+use Rattle.search.specs.Next.{bitAt, next}
+use Rattle.search.specs.Answers.{found}
+use Rattle.search.proofs.Least.{Unmarked, next-none, unmarked-tally}
+use Rattle.search.proofs.Reading.{file-next}
 use Rattle.rtm1.specs.Visit.{Placed, here, run, pointIn}
 use Rattle.rtm1.specs.Build.{scratchWords}
 use Rattle.rtm1.proofs.Visit.{run-first}
@@ -147,6 +151,23 @@ module _ (f : List ℕ) (ok : fileCause f ≡ 0) (works : workCause f ≡ 0) (g 
         in-row = omega arith;
         in-file = omega (arith, sum, start, all, all-counted (c + (x1 - x)) (omega (arith, ec, few g x (x1 - x) y z yl zl (omega arith))));
       }
+
+  -- where the search finds none
+  pub marked-none : (c : ℕ) → c ≡ cell g x y z → Unmarked (mark f) c (c + (x1 - x)) → Ran f g z y x x1 (record { index = 0; count = 0; next = x1 })
+  marked-none c ec free =
+      let width : c + (x1 - x) - c ≡ x1 - x = omega arith in
+      let no : tally (mark f) (cell g x y z) (x1 - x) ≡ 0 = rw (← ec, ← width) (unmarked-tally (mark f) c (c + (x1 - x)) free) in
+      record {
+        points = rw (behind-none, row-is, no) (unfold placed in refl);
+        on = xl;
+        in-row = omega arith;
+        in-file = omega arith;
+      }
+
+-- no cell of the file from `first` up to `end` is occupied
+pub miss-is : (words f : List ℕ) → Entered words f → (first end : ℕ) → end ≤ cube (grid f) → (r : Search) (n : ℕ) → found r ≡ next (bitAt words) first end → r ≡ Nothing n → Unmarked (mark f) first end
+unfolding found
+miss-is words f d first end low r n e q = next-none (mark f) first end .0 (sym (file-next words f d first end low) ∙ sym e ∙ ap found q)
 
 -- the row's cells lie in the grid
 pub row-fits : (f : List ℕ) (g : ℕ) (x x1 y z c : ℕ) → g ≡ grid f → c ≡ cell g x y z → x < x1 → x1 ≤ g → y < g → z < g → c + (x1 - x) ≤ cube (grid f)

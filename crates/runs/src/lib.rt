@@ -14,6 +14,8 @@ use points::judge::is_refused;
 use points::judge::work_cause;
 use points::records::cell_number;
 use points::records::count;
+use search::Search;
+use search::next;
 
 // How the words of scratch are laid out: marks and totals, or a word per cell.
 pub enum Form {
@@ -65,15 +67,23 @@ pub struct Run {
     pub next: u32,
 }
 
-// By marks: all that is left of the row.
+// By marks: all that is left of the row, where the search finds one.
 fn marked_run(words: &[u32], file: &[u8], g: u32, z: u32, y: u32, x: u32, x1: u32) -> Run
     requires { ⌜ Ready Marks (now words) (now file) g ⌝ }
     requires { ⌜ (x < x1) × (x1 ≤ g) × (y < g) × (z < g) ⌝ }
     ensures { λ r. ⌜ Ran (now (file .entry)) g z y x x1 r ⌝ }
 {
     let c = cell_number(g, x, y, z);
+    let w = x1 - x;
+    let Search::At(_, _) = next(words, c, c + w) else {
+        return Run {
+            index: 0,
+            count: 0,
+            next: x1,
+        };
+    };
     let index = index_of(words, file, c);
-    let count = count_of(words, file, c, x1 - x, index);
+    let count = count_of(words, file, c, w, index);
     Run {
         index,
         count,

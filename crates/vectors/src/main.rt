@@ -10,6 +10,7 @@ fn main() {
     replay_file(b"build", b"build.bin", Kind::Build);
     replay_file(b"cost", b"cost.bin", Kind::Cost);
     replay_file(b"costliest", b"costliest.bin", Kind::Costliest);
+    replay_file(b"next", b"next.bin", Kind::Next);
     replay_file(b"edit", b"edit.bin", Kind::Edit);
     replay_file(b"ray", b"ray.bin", Kind::Ray);
     replay_file(b"inside", b"inside.bin", Kind::Inside);

@@ -1,5 +1,5 @@
 // A file of stored cases, all of one size: read one by one, held to what the library gives, counted and reported.
-// A further kind is a module of stored or stored_meshes with its size and its `is_same`, named in `case_size` and `is_same_case` below, and a line of `main`.
+// A further kind is a module of stored, stored_marks or stored_meshes with its size and its `is_same`, named in `case_size` and `is_same_case` below, and a line of `main`.
 ghost use Prim.Native.Nat.{_≤_};
 use libc::STDOUT_FILENO;
 use stored::built;
@@ -8,6 +8,7 @@ use stored::edited;
 use stored::narrowed;
 use stored::opened;
 use stored::written;
+use stored_marks::searched;
 use stored_meshes::crossed;
 use stored_meshes::filled;
 use stored_meshes::sided;
@@ -18,6 +19,7 @@ pub enum Kind {
     Build,
     Cost,
     Costliest,
+    Next,
     Edit,
     Ray,
     Inside,
@@ -34,6 +36,7 @@ fn case_size(kind: Kind) -> usize
         Kind::Build => built::SIZE,
         Kind::Cost => costed::SIZE,
         Kind::Costliest => written::SIZE,
+        Kind::Next => searched::SIZE,
         Kind::Edit => edited::SIZE,
         Kind::Ray => crossed::SIZE,
         Kind::Inside => sided::SIZE,
@@ -49,6 +52,7 @@ fn is_same_case(kind: Kind, case: &[u8]) -> bool {
         Kind::Build => built::is_same(case),
         Kind::Cost => costed::is_same(case),
         Kind::Costliest => written::is_same(case),
+        Kind::Next => searched::is_same(case),
         Kind::Edit => edited::is_same(case),
         Kind::Ray => crossed::is_same(case),
         Kind::Inside => sided::is_same(case),

@@ -6,6 +6,7 @@ use super::Build;
 use crate::bench::{cell, float, points, word};
 use crate::ffi::Built;
 use crate::open::plain::Twice;
+use crate::store::next::plain as next;
 use lookup::{Lookup, Scratch};
 use std::ops::Range;
 
@@ -69,8 +70,14 @@ macro_rules! scratch_with {
     };
 }
 
+macro_rules! search_with {
+    ($fault:ident) => {
+        build_with!(Fault::Scratch(Scratch::Search(next::Fault::$fault)))
+    };
+}
+
 /// Build with each fault, and a kind of case that shows it.
-pub(crate) const FAULTS: [(Build, &str); 64] = [
+pub(crate) const FAULTS: [(Build, &str); 75] = [
     (build_with!(Fault::OneRoot), "full grids"),
     (build_with!(Fault::NoRecordOfAnEmptyChild), "8 and 9 points"),
     (build_with!(Fault::LinkToAnEmptyChild), "8 and 9 points"),
@@ -135,6 +142,17 @@ pub(crate) const FAULTS: [(Build, &str); 64] = [
     (scratch_with!(SpareBitsSet), "ends of words"),
     (scratch_with!(NotCleared), "ends of words"),
     (scratch_with!(PairsOfAnyOrder), "every grid size"),
+    (search_with!(FirstOfWholeWord), "ends of words"),
+    (search_with!(LastMark), "ends of words"),
+    (search_with!(EndSearched), "every grid size"),
+    (search_with!(BeforeTheEndLost), "ends of words"),
+    (search_with!(StopsAtEmptyWord), "every grid size"),
+    (search_with!(NextWordUnaligned), "every grid size"),
+    (search_with!(EmptyWordUntested), "every grid size"),
+    (search_with!(TotalsAsMarks), "every grid size"),
+    (search_with!(FirstLeftOut), "every grid size"),
+    (search_with!(ClampedToTheEnd), "every grid size"),
+    (scratch_with!(RowsToThePlanesEnd), "every grid size"),
 ];
 
 /// Some of the faults of 8 and of what stands in scratch, for trees after edits.
@@ -186,8 +204,8 @@ impl Plain<'_> {
 
     /// The indices of the box's points in the order of visiting.
     fn visited(&self, low: [usize; 3], high: [usize; 3]) -> Vec<u32> {
-        let cells = self.rows(low, high).flatten();
-        cells.filter_map(|cell| self.lookup.index(cell)).collect()
+        let rows = self.rows(low, high);
+        rows.flat_map(|row| self.lookup.indices(row)).collect()
     }
 
     /// How many points the box has.

@@ -1,6 +1,7 @@
 //! What the second build wants of scratch and keeps there, and the faults that tests plant in it.
 
 use crate::bench::{cell, enter, float, number, points, word, NONE};
+use crate::store::next::plain::{plain_next, Fault};
 use std::ops::Range;
 
 type Record = [u8; 16];
@@ -38,12 +39,16 @@ pub(crate) enum Scratch {
     SpareBitsSet,
     NotCleared,
     PairsOfAnyOrder,
+    // the search for a row's marked cells
+    Search(Fault),
+    RowsToThePlanesEnd,
 }
 
 /// Marks and totals of so many cells, in pairs of words: the marks of 32 cells, and how many cells before them are marked.
 pub(super) struct Pairs<'a> {
     scratch: Scratch,
     words: &'a [u32],
+    grid: usize,
     cells: usize,
 }
 
@@ -65,16 +70,40 @@ impl Pairs<'_> {
         [self.words[word], self.words[word + 1]]
     }
 
-    /// The total before a cell's word and the marks below its own, where it is marked.
-    fn index(&self, cell: usize) -> Option<u32> {
+    /// The total before a cell's word and the marks below its own.
+    fn index(&self, cell: usize) -> u32 {
         let ([marks, total], bit) = (self.pair(cell), cell % 32);
         let below = match self.scratch {
             Scratch::OwnMarkCounted => through(bit),
             _ => through(bit) >> 1,
         };
         let more = u32::from(self.scratch == Scratch::OneMoreAt(cell));
-        let index = total.wrapping_add((marks & below).count_ones() + more);
-        (marks >> bit & 1 == 1).then_some(index)
+        total.wrapping_add((marks & below).count_ones() + more)
+    }
+
+    /// The marked cells of a row, each searched for from the one before on.
+    fn marked(&self, row: Range<usize>) -> Vec<usize> {
+        let fault = match self.scratch {
+            Scratch::Search(fault) => fault,
+            _ => Fault::None,
+        };
+        let plane = self.grid.pow(2);
+        let end = match self.scratch {
+            Scratch::RowsToThePlanesEnd => (row.start / plane + 1) * plane,
+            _ => row.end,
+        };
+        let (pairs, _) = self.words.as_chunks();
+        let mut cells = Vec::new();
+        let mut first = row.start;
+        // a search that goes back to an earlier mark finds no more than a row has
+        while let Some(cell) = plain_next(fault, pairs, first as u32, end as u32).cell {
+            if cells.len() == self.cells {
+                break;
+            }
+            cells.push(cell as usize);
+            first = first.max(cell as usize) + 1;
+        }
+        cells
     }
 
     /// How many cells up to this one are marked, with it: for the grid's last cell all marks of its word count.
@@ -90,11 +119,17 @@ impl Pairs<'_> {
 }
 
 impl Lookup<'_> {
-    /// The index of a cell's record.
-    pub(super) fn index(&self, cell: usize) -> Option<u32> {
+    /// The indices of a row's records.
+    pub(super) fn indices(&self, row: Range<usize>) -> Vec<u32> {
         match self {
-            Self::Cells(cells) => Some(cells[cell]).filter(|&index| index != NONE),
-            Self::Pairs(pairs) => pairs.index(cell),
+            Self::Cells(cells) => {
+                let row = cells[row].iter().copied();
+                row.filter(|&index| index != NONE).collect()
+            }
+            Self::Pairs(pairs) => {
+                let marked = pairs.marked(row).into_iter();
+                marked.map(|cell| pairs.index(cell)).collect()
+            }
         }
     }
 
@@ -212,6 +247,7 @@ impl Scratch {
         Ok(Lookup::Pairs(Pairs {
             scratch: self,
             words,
+            grid,
             cells,
         }))
     }
