@@ -9,7 +9,7 @@ use lib.ListN.{length, getD}
 use lib.Bits.{bitAnd}
 use lib.Pow.{shl-exact, pow-pos, pow-mono}
 use lib.Count.{ones, ones-ones}
-use Rattle.rym1.specs.File.{grid, points, cube, fileCause, workCause, groups}
+use Rattle.rym1.specs.File.{grid, cube, fileCause, workCause, groups}
 use Rattle.rym1.specs.Cells.{Masses, look, lookFrom, massMap, atCell, recordsFrom, records}
 use Rattle.rym1.specs.Open.{occupiedOf}
 use Rattle.rym1.proofs.Cells.{slotAt, look-records}
@@ -76,21 +76,23 @@ unfolding tally
 tally-few f c zero = omega arith
 tally-few f c (suc k) = omega (arith, mark-bit f c, tally-few f (suc c) k)
 
--- ---- the marks of w cells on end, all of one word
+-- ---- the marks from a cell on, in its word
 
-pub ones-part : (words f : List ℕ) → Entered words f → (c w : ℕ) → c < cube (grid f) → c % 32 + w ≤ 32
-    → ones (bitAnd (getD words (2 * (c / 32)) 0 / 2 ^ (c % 32)) (2 ^ w - 1)) ≡ tally (mark f) c w
-ones-part words f d c w low fits =
+-- the word, shifted down to the cell
+pub word-from : (words f : List ℕ) → Entered words f → (c : ℕ) → c < cube (grid f) → getD words (2 * (c / 32)) 0 / 2 ^ (c % 32) ≡ markWord (mark f) c (32 - c % 32)
+word-from words f d c low =
     let k = c / 32 in
     let j = c % 32 in
     let whole : 32 * k + j ≡ c = omega arith in
     let part : j + (32 - j) ≡ 32 = omega arith in
-    let rest : w + (32 - j - w) ≡ 32 - j = omega arith in
-    let high : markWord (mark f) (32 * k) 32 / 2 ^ j ≡ markWord (mark f) (32 * k + j) (32 - j) =
-    rw part at (word-high (mark f) (mark-bit f) (32 * k) j (32 - j)) in
-    let here : ones (bitAnd (markWord (mark f) (32 * k + j) (32 - j)) (2 ^ w - 1)) ≡ tally (mark f) (32 * k + j) w =
-    rw rest at (ones-masked (mark f) (mark-bit f) (32 * k + j) w (32 - j - w)) in
-    rw (d .marks k (group-of (cube (grid f)) c low), high, here, whole)
+    ap (λ (n : ℕ). n / 2 ^ j) (d .marks k (group-of (cube (grid f)) c low)) ∙ rw (part, whole) at (word-high (mark f) (mark-bit f) (32 * k) j (32 - j))
+
+-- w of them
+pub ones-part : (words f : List ℕ) → Entered words f → (c w : ℕ) → c < cube (grid f) → c % 32 + w ≤ 32
+    → ones (bitAnd (getD words (2 * (c / 32)) 0 / 2 ^ (c % 32)) (2 ^ w - 1)) ≡ tally (mark f) c w
+ones-part words f d c w low fits =
+    let rest : w + (32 - c % 32 - w) ≡ 32 - c % 32 = omega arith in
+    rw (word-from words f d c low) (rw rest at (ones-masked (mark f) (mark-bit f) c w (32 - c % 32 - w)))
 
 -- their mask as the code has it: w ones
 pub half-word : (j : ℕ) → j < 32 → 1 * 2 ^ j % 4294967296 ≤ 2147483648

@@ -29,7 +29,7 @@ use Rattle.search.proofs.Least.{Unmarked, next-none, unmarked-tally}
 use Rattle.search.proofs.Reading.{file-next}
 use Rattle.rtm1.specs.Visit.{Placed, here, run, pointIn}
 use Rattle.rtm1.specs.Build.{scratchWords}
-use Rattle.rtm1.proofs.Visit.{run-first}
+use Rattle.rtm1.proofs.Visit.{run-first, run-none}
 use Rattle.runs.specs.declared.Form.{Form}
 use Rattle.runs.specs.declared.Form.the-variants.{Marks, Words}
 use Rattle.runs.specs.Runs.{placedAt, placed, formOf, roomOf, Ready, Ran}
@@ -138,7 +138,7 @@ module _ (f : List ℕ) (ok : fileCause f ≡ 0) (works : workCause f ≡ 0) (g 
       omega (arith, rw split at sum, all)
 
   behind-none : run (pointIn (look f) g z y) x1 (x1 - x1) ≡ []
-  behind-none = let e : x1 - x1 ≡ 0 = omega arith in rw e (unfold run in refl)
+  behind-none = run-none (pointIn (look f) g z y) x1 x1 (omega arith)
 
   -- from the row's first cell up to its end
   pub marked-row : (c index count : ℕ) → c ≡ cell g x y z → index ≡ tally (mark f) 0 c → count ≡ tally (mark f) c (x1 - x)

@@ -3,13 +3,15 @@
 use Prim.Native.Nat.{ℕ, zero, suc, _+_, _-_, _*_, _/_, _≤_, _<_}
 use mathlib.Core.Path.{_≡_, refl, sym, ap, _∙_}
 use mathlib.Core.Logic.{_↔_}
-use mathlib.Core.Option.{Option, none, some}
-use native.Mathlib.Decide.{ℕ-discrete}
+use mathlib.Core.Bool.{Bool, true, false, cond}
+use mathlib.Core.Option.{Option, none, some, Option·some-injective, Option·none-ne-some, Option·some-ne-none}
+use native.Mathlib.Decide.{ℕ-discrete, decLt}
 use native.Mathlib.Omega.{arith}
-use borrow.Author.Tests.{lt-ltb}
+use lib.Dec.{eqb}
+use borrow.Author.Tests.{eqb-true, eqb-false, eq-eqb, ne-eqb, lt-ltb, le-ltb}
 use Rattle.rym1.specs.File.{groups}
 use Rattle.marks.specs.Marks.{tally}
-use Rattle.search.specs.Next.{orElse, least, next, touched}
+use Rattle.search.specs.Next.{least, next, touched}
 
 -- no cell from `first` up to `end` is marked
 abbrev pub Unmarked : (ℕ → ℕ) → ℕ → ℕ → Type 0
@@ -22,66 +24,55 @@ pub record LeastMarked (p : ℕ → ℕ) (first end c : ℕ) : Type 0 where
   pub before : c < end
   pub lower : Unmarked p first c
 
-some-none : {c : ℕ} → some c ≡ none → ⊥
-some-none q = let z : _≡_ {A = ℕ} 0 1 = cc in omega arith
-
-some-same : {a b : ℕ} → some a ≡ some b → a ≡ b
-some-same e = cc
-
 module _ (p : ℕ → ℕ) where
   -- of k cells from c on
   least-none : (c k : ℕ) → Unmarked p c (c + k) → least p c k ≡ none
-  unfolding least orElse
+  unfolding least
   least-none c zero all = refl
   least-none c (suc k) all =
-      let rest : least p (suc c) k ≡ none = least-none (suc c) k (λ i l h. all i (omega arith) (omega arith)) in
-      rw (all c (omega arith) (omega arith), rest)
+      rw (eq-eqb (p c) 0 (all c (omega arith) (omega arith)), least-none (suc c) k (λ i l h. all i (omega arith) (omega arith)))
 
   none-least : (c k : ℕ) → least p c k ≡ none → Unmarked p c (c + k)
-  unfolding least orElse
+  unfolding least
   none-least c zero e i l h = absurd (omega arith)
-  none-least c (suc k) e i l h = go (p c) refl e (λ d. none-least (suc c) k d i)
+  none-least c (suc k) e i l h = go (eqb (p c) 0) refl e (λ d. none-least (suc c) k d i)
     where
-      go : (b : ℕ) → p c ≡ b → orElse b c (least p (suc c) k) ≡ none → (least p (suc c) k ≡ none → suc c ≤ i → i < suc c + k → p i ≡ 0) → p i ≡ 0
-      go zero q d ih = elim (ℕ-discrete c i) [
-        | yes same ↦ ap p (sym same) ∙ q
+      go : (t : Bool) → eqb (p c) 0 ≡ t → cond t (least p (suc c) k) (some c) ≡ none → (least p (suc c) k ≡ none → suc c ≤ i → i < suc c + k → p i ≡ 0) → p i ≡ 0
+      go true q d ih = elim (ℕ-discrete c i) [
+        | yes same ↦ ap p (sym same) ∙ eqb-true (p c) 0 q
         | no other ↦ ih d (omega arith) (omega arith)
       ]
-      go (suc b) q d ih = absurd (some-none d)
+      go false q d ih = absurd (Option·some-ne-none c d)
 
   least-some : (c k r : ℕ) → LeastMarked p c (c + k) r → least p c k ≡ some r
-  unfolding least orElse
+  unfolding least
   least-some c zero r m = absurd (omega (arith, m .from, m .before))
   least-some c (suc k) r m = elim (ℕ-discrete c r) [
-    | yes same ↦ go (p c) (λ z. m .marked (ap p (sym same) ∙ z)) ∙ ap some same
+    | yes same ↦ rw (ne-eqb (p c) 0 (λ z. m .marked (ap p (sym same) ∙ z))) (ap some same)
     | no other ↦
         let up : suc c ≤ r = omega (arith, m .from) in
         let rest = least-some (suc c) k r (record { marked = m .marked; from = up; before = omega (arith, m .before); lower = λ i l h. m .lower i (omega arith) h }) in
-        rw (m .lower c (omega arith) (omega arith), rest)
+        rw (eq-eqb (p c) 0 (m .lower c (omega arith) (omega arith)), rest)
   ]
-    where
-      go : (b : ℕ) → (b ≡ 0 → ⊥) → orElse b c (least p (suc c) k) ≡ some c
-      go zero z = absurd (z refl)
-      go (suc b) z = refl
 
   some-least : (c k r : ℕ) → least p c k ≡ some r → LeastMarked p c (c + k) r
-  unfolding least orElse
-  some-least c zero r e = absurd (some-none (sym e))
-  some-least c (suc k) r e = go (p c) refl e (λ d. some-least (suc c) k r d)
+  unfolding least
+  some-least c zero r e = absurd (Option·none-ne-some r e)
+  some-least c (suc k) r e = go (eqb (p c) 0) refl e (λ d. some-least (suc c) k r d)
     where
-      go : (b : ℕ) → p c ≡ b → orElse b c (least p (suc c) k) ≡ some r → (least p (suc c) k ≡ some r → LeastMarked p (suc c) (suc c + k) r) → LeastMarked p c (c + suc k) r
-      go zero q d ih =
+      go : (t : Bool) → eqb (p c) 0 ≡ t → cond t (least p (suc c) k) (some c) ≡ some r → (least p (suc c) k ≡ some r → LeastMarked p (suc c) (suc c + k) r) → LeastMarked p c (c + suc k) r
+      go true q d ih =
           let m = ih d in
           record { marked = m .marked; from = omega (arith, m .from); before = omega (arith, m .before); lower = λ i l h. lower m i l h }
         where
           lower : LeastMarked p (suc c) (suc c + k) r → (i : ℕ) → c ≤ i → i < r → p i ≡ 0
           lower m i l h = elim (ℕ-discrete c i) [
-            | yes same ↦ ap p (sym same) ∙ q
+            | yes same ↦ ap p (sym same) ∙ eqb-true (p c) 0 q
             | no other ↦ m .lower i (omega arith) h
           ]
-      go (suc b) q d ih =
-          let same : c ≡ r = some-same d in
-          record { marked = λ z. absurd (omega (arith, q, ap p same, z)); from = omega arith; before = omega arith; lower = λ i l h. absurd (omega arith) }
+      go false q d ih =
+          let same : c ≡ r = Option·some-injective c r d in
+          record { marked = λ z. eqb-false (p c) 0 q (ap p same ∙ z); from = omega arith; before = omega arith; lower = λ i l h. absurd (omega arith) }
 
   -- ---- the theorem
 
@@ -135,6 +126,20 @@ next-same p q first end same = go (next q first end) refl
 
 -- ---- the words that are read
 
+pub touched-some : (first stop : ℕ) → first < stop → touched first stop ≡ (stop + 31) / 32 - first / 32
+unfolding touched groups
+touched-some first stop h = rw (lt-ltb first stop h)
+
+pub touched-none : (first stop : ℕ) → stop ≤ first → touched first stop ≡ 0
+unfolding touched
+touched-none first stop h = rw (le-ltb first stop h)
+
+pub touched-few : (first stop : ℕ) → touched first stop ≤ stop
+touched-few first stop = elim (decLt first stop) [
+  | yes h ↦ omega (arith, touched-some first stop h)
+  | no h ↦ omega (arith, touched-none first stop (omega arith))
+]
+
 -- word i has a cell from `first` up to `stop`
 pub record Touches (first stop i : ℕ) : Type 0 where
   pub cell : ℕ
@@ -144,18 +149,15 @@ pub record Touches (first stop i : ℕ) : Type 0 where
 
 -- these words stand on end, from the first cell's on: as many as `touched` says
 pub touched-words : (first stop i : ℕ) → Touches first stop i ↔ ((first < stop) × (first / 32 ≤ i) × (i < first / 32 + touched first stop))
-unfolding touched groups
 touched-words first stop i = (to, from)
   where
     to : Touches first stop i → (first < stop) × (first / 32 ≤ i) × (i < first / 32 + touched first stop)
     to t =
         let some : first < stop = omega (arith, t .from, t .before) in
-        (some, omega (arith, t .from, t .its), rw (lt-ltb first stop some) (omega (arith, t .from, t .its, t .before)))
+        (some, omega (arith, t .from, t .its), omega (arith, touched-some first stop some, t .from, t .its, t .before))
 
     from : (first < stop) × (first / 32 ≤ i) × (i < first / 32 + touched first stop) → Touches first stop i
-    from h =
-        let few : i < first / 32 + ((stop + 31) / 32 - first / 32) = rw (lt-ltb first stop (h .0)) at (h .2) in
-        elim (ℕ-discrete (first / 32) i) [
-          | yes same ↦ record { cell = first; its = same; from = omega arith; before = h .0 }
-          | no other ↦ record { cell = 32 * i; its = omega arith; from = omega (arith, h .1); before = omega (arith, few, h .0) }
-        ]
+    from h = elim (ℕ-discrete (first / 32) i) [
+      | yes same ↦ record { cell = first; its = same; from = omega arith; before = h .0 }
+      | no other ↦ record { cell = 32 * i; its = omega arith; from = omega (arith, h .1); before = omega (arith, touched-some first stop (h .0), h .2, h .0) }
+    ]

@@ -10,13 +10,12 @@ use native.Mathlib.Decide.{decLt}
 use lib.ListN.{getD}
 use lib.Count.{trailingZeros, under}
 use lib.Pow.{shr-shr, shr-lt, shr-le, pow-mono, pow-pos}
-use borrow.Author.Tests.{lt-ltb, le-ltb}
-use Rattle.rym1.specs.File.{grid, cube, groups}
-use Rattle.marks.specs.Marks.{mark, markWord, Entered}
-use Rattle.marks.proofs.Digits.{word-odd, word-high}
-use Rattle.marks.proofs.Index.{mark-bit, group-of}
+use Rattle.rym1.specs.File.{grid, cube}
+use Rattle.marks.specs.Marks.{mark, Entered}
+use Rattle.marks.proofs.Digits.{word-odd}
+use Rattle.marks.proofs.Index.{mark-bit, word-from}
 use Rattle.search.specs.Next.{bitAt, next, touched, stopOf, wordsRead}
-use Rattle.search.proofs.Least.{Unmarked, LeastMarked, next-some, next-none, next-same}
+use Rattle.search.proofs.Least.{Unmarked, LeastMarked, next-some, next-none, next-same, touched-some, touched-none}
 
 -- ---- digits of a word
 
@@ -114,33 +113,14 @@ module _ (words : List ℕ) (c at below w : ℕ) (there : at ≡ 2 * (c / 32)) (
 pub bit-mark : (words f : List ℕ) → Entered words f → (c : ℕ) → c < cube (grid f) → bitAt words c ≡ mark f c
 unfolding bitAt
 bit-mark words f d c low =
-    let k = c / 32 in
-    let j = c % 32 in
-    let whole : 32 * k + j ≡ c = omega arith in
-    let part : j + (32 - j) ≡ 32 = omega arith in
-    let more : 32 - j ≡ suc (31 - j) = omega arith in
-    let high : markWord (mark f) (32 * k) 32 / 2 ^ j ≡ markWord (mark f) (32 * k + j) (32 - j) = rw part at (word-high (mark f) (mark-bit f) (32 * k) j (32 - j)) in
-    rw (d .marks k (group-of (cube (grid f)) c low), high, whole, more) (word-odd (mark f) (mark-bit f) c (31 - j))
+    let more : 32 - c % 32 ≡ suc (31 - c % 32) = omega arith in
+    rw (word-from words f d c low, more) (word-odd (mark f) (mark-bit f) c (31 - c % 32))
 
 -- the search in them finds the file's next occupied cell
 pub file-next : (words f : List ℕ) → Entered words f → (first end : ℕ) → end ≤ cube (grid f) → next (bitAt words) first end ≡ next (mark f) first end
 file-next words f d first end low = next-same (bitAt words) (mark f) first end (λ c h. bit-mark words f d c (omega arith))
 
 -- ---- the loop
-
-touched-some : (first stop : ℕ) → first < stop → touched first stop ≡ (stop + 31) / 32 - first / 32
-unfolding touched groups
-touched-some first stop h = rw (lt-ltb first stop h)
-
-touched-none : (first stop : ℕ) → stop ≤ first → touched first stop ≡ 0
-unfolding touched
-touched-none first stop h = rw (le-ltb first stop h)
-
-pub touched-few : (first stop : ℕ) → touched first stop ≤ stop
-touched-few first stop = elim (decLt first stop) [
-  | yes h ↦ omega (arith, touched-some first stop h)
-  | no h ↦ omega (arith, touched-none first stop (omega arith))
-]
 
 -- no cell from `first` up to c is marked, where a word starts unless it is the first cell
 pub record Searching (p : ℕ → ℕ) (first end c n : ℕ) : Type 0 where

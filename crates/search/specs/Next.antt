@@ -4,22 +4,17 @@ use mathlib.Core.Bool.{cond}
 use mathlib.Core.Option.{Option, none, some}
 use mathlib.Core.List.{List}
 use lib.ListN.{getD}
-use lib.Dec.{ltb}
+use lib.Dec.{eqb, ltb}
 use Rattle.rym1.specs.File.{groups}
 
 -- cell c's mark in the words: word 2·i has those of cells 32·i to 32·i + 31, the lowest first
 unfoldable pub bitAt : List ℕ → ℕ → ℕ
 bitAt words c = getD words (2 * (c / 32)) 0 / 2 ^ (c % 32) % 2
 
--- a cell with a mark, or else what the later cells give
-unfoldable pub orElse : ℕ → ℕ → Option ℕ → Option ℕ
-orElse zero c rest = rest
-orElse (suc n) c rest = some c
-
 -- the least occupied of k cells from c on, or none, p giving their marks
 unfoldable pub least : (ℕ → ℕ) → ℕ → ℕ → Option ℕ
 least p c zero = none
-least p c (suc k) = orElse (p c) c (least p (suc c) k)
+least p c (suc k) = cond (eqb (p c) 0) (least p (suc c) k) (some c)
 
 -- from a first cell up to an end, end excluded
 unfoldable pub next : (ℕ → ℕ) → ℕ → ℕ → Option ℕ

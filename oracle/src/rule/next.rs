@@ -32,28 +32,31 @@ pub(crate) fn next(pairs: &[[u32; 2]], first: u32, end: u32) -> Next {
     }
 }
 
+/// 02's search by hand: cells 3, 40 and 64 are marked.
+pub(crate) const KNOWN_PAIRS: [[u32; 2]; 3] = [[1 << 3, 7], [1 << 8, 7], [1, 7]];
+
+/// Searches in it: first, end, the cell, the words read.
+pub(crate) const KNOWN: [([u32; 2], Option<u32>, u32); 10] = [
+    ([0, 96], Some(3), 1),
+    ([4, 96], Some(40), 2),
+    ([40, 41], Some(40), 1),
+    ([41, 96], Some(64), 2),
+    ([4, 40], None, 2),
+    ([41, 64], None, 1),
+    ([64, 64], None, 0),
+    ([70, 64], None, 0),
+    ([4, 32], None, 1),
+    ([31, 33], None, 2),
+];
+
 #[cfg(test)]
 mod tests {
     use super::*;
 
-    /// 02's search by hand: cells 3, 40 and 64 are marked.
     #[test]
     fn known_searches() {
-        let pairs = [[1 << 3, 7], [1 << 8, 7], [1, 7]];
-        let known = [
-            ([0, 96], Some(3), 1),
-            ([4, 96], Some(40), 2),
-            ([40, 41], Some(40), 1),
-            ([41, 96], Some(64), 2),
-            ([4, 40], None, 2),
-            ([41, 64], None, 1),
-            ([64, 64], None, 0),
-            ([70, 64], None, 0),
-            ([4, 32], None, 1),
-            ([31, 33], None, 2),
-        ];
-        for ([first, end], cell, read) in known {
-            assert_eq!(next(&pairs, first, end), Next { cell, read });
+        for ([first, end], cell, read) in KNOWN {
+            assert_eq!(next(&KNOWN_PAIRS, first, end), Next { cell, read });
         }
     }
 }

@@ -11,7 +11,7 @@ pub(crate) mod plain;
 use super::blocks::{bytes_of, laid, unlike, words_of, Block};
 use crate::original::Verdict;
 use crate::rng::Rng;
-use crate::rule::next::{next, Next};
+use crate::rule::next::{next, Next, KNOWN, KNOWN_PAIRS};
 
 const PAIRS: usize = 16;
 const SEARCHES: usize = 55;
@@ -93,19 +93,8 @@ impl Block for Stored {
     /// 02's search by hand, then marks of every kind.
     fn cases() -> Vec<Case> {
         let known = Case {
-            pairs: vec![[1 << 3, 7], [1 << 8, 7], [1, 7]],
-            searches: vec![
-                [0, 96],
-                [4, 96],
-                [40, 41],
-                [41, 96],
-                [4, 40],
-                [41, 64],
-                [64, 64],
-                [70, 64],
-                [4, 32],
-                [31, 33],
-            ],
+            pairs: KNOWN_PAIRS.to_vec(),
+            searches: KNOWN.map(|(search, _, _)| search).to_vec(),
         };
         let mut rng = Rng::new(SEED);
         let drawn = (1..CASES).map(|number| drawn(&mut rng, number));

@@ -3,11 +3,12 @@ use Prim.Native.Nat.{_-_, _*_, _/_, _%_, _^_}
 use mathlib.Core.Path.{_≡_, refl}
 use native.Mathlib.Omega.{arith}
 use lib.ListN.{getD}
-use lib.Count.{trailing-le}
+use lib.Count.{leading-le, trailing-le}
 use Rattle.marks.proofs.Index.{group-of}
 use Rattle.search.specs.Next.{bitAt}
 use Rattle.search.specs.Answers.{found, read}
-use Rattle.search.proofs.Reading.{Searching, touched-few, search-start, search-hit, search-out, search-on, search-end, none-in-word, first-in-word}
+use Rattle.search.proofs.Least.{touched-few}
+use Rattle.search.proofs.Reading.{Searching, search-start, search-hit, search-out, search-on, search-end, none-in-word, first-in-word}
 use borrow.Author.Needs.{needs}
 use Rattle.search.proofs.next.Statement.{statement}
 use Rattle.search.proofs.next.Tie as tie
@@ -49,7 +50,9 @@ add-cell : tie.Need-add-cell Inv-loop μ-loop
 add-cell c =
     let s = c .before .before .before .before in
     let l = c .before .before .before .loop in
-    record { fits = omega (arith, trailing-le 32 (getD (s .args .words .now) (l .at) 0 / 2 ^ (l .below)), c .before .before .loop-test .taken, s .pre .0) }
+    let marks = getD (s .args .words .now) (l .at) 0 / 2 ^ (l .below) in
+    -- a word has at most 32 zeros, at either end
+    record { fits = omega (arith, trailing-le 32 marks, leading-le 32 marks, c .before .before .loop-test .taken, s .pre .0) }
 
 returns : tie.Need-returns Inv-loop μ-loop
 unfolding found read
