@@ -1,4 +1,6 @@
 // The inside test's box, the indices of a point in it, and which triangles are candidates (InsideAccelerator).
+#![tactic(auto)]
+
 ghost use Rattle.std.specs.Prelude.{◌≡◌};
 ghost use Rattle.filling.specs.Lists.{mesh};
 ghost use Rattle.filling.specs.Inside as def;
@@ -135,7 +137,7 @@ pub fn candidate(b: Bounds, at: Indices, t: Triangle) -> bool
 }
 
 // A triangle's ranges on each axis: its lower and its upper indices.
-#[derive(Drop)]
+#[derive(Clone, Copy)]
 pub struct Ranges {
     pub low: Indices,
     pub high: Indices,

@@ -1,4 +1,6 @@
 // Boxes of cells: what a box becomes, and how it is split.
+#![tactic(auto)]
+
 ghost use Rattle.std.specs.Prelude.{◌≡◌};
 ghost use Rattle.rtm1.specs.Boxes.{Proper, whole, widest, lower, upper};
 ghost use Rattle.rtm1.specs.Tree.{kind_of};
@@ -91,7 +93,7 @@ fn upper(axis: Axis, b: Cells) -> Cells
     c
 }
 
-#[derive(Drop)]
+#[derive(Clone, Copy)]
 pub struct Pair {
     pub low: Cells,
     pub high: Cells,

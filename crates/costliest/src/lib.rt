@@ -1,4 +1,6 @@
 // The most costly model of a grid, every cell occupied: how many nodes its tree has, and its file.
+#![tactic(auto)]
+
 ghost use Rattle.std.specs.Prelude.{◌≡◌, true, ◌+◌, ◌*◌, ◌≤◌, ◌<◌, length};
 ghost use Rattle.rym1.specs.Bytes.{splice, words_bytes};
 ghost use Rattle.rym1.specs.Causes.{told, outcome};

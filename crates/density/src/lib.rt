@@ -1,4 +1,6 @@
 // The density of kernels at a point (density.rs, alpha exactly 1), and the lists of kernels that are lent as little-endian bytes.
+#![tactic(auto)]
+
 ghost use Rattle.std.specs.Prelude.{◌≡◌, ◌+◌, ◌*◌, ◌≤◌, length};
 ghost use Rattle.filling.specs.Lists.{kernel, kernels_at, kernels, good_kernel, good_kernels, kernels_wrong};
 ghost use Rattle.filling.specs.Density.{weight, density_at};

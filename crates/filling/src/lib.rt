@@ -1,14 +1,16 @@
 // The types that the definitions of specs/ and the code share (model.rs, inside.rs, density.rs). The crate has no function.
+#![tactic(auto)]
+
 use rym1::Cause;
 
-#[derive(Drop)]
+#[derive(Clone, Copy)]
 pub struct Vec3 {
     pub x: f64,
     pub y: f64,
     pub z: f64,
 }
 
-#[derive(Drop)]
+#[derive(Clone, Copy)]
 pub struct Triangle {
     pub a: Vec3,
     pub b: Vec3,
@@ -16,7 +18,7 @@ pub struct Triangle {
 }
 
 // A density's kernel, its alpha exactly 1: centre, sigma, weight.
-#[derive(Drop)]
+#[derive(Clone, Copy)]
 pub struct Kernel {
     pub c: Vec3,
     pub sigma: f64,
@@ -24,14 +26,14 @@ pub struct Kernel {
 }
 
 // A box: the least and the greatest coordinates.
-#[derive(Drop)]
+#[derive(Clone, Copy)]
 pub struct Bounds {
     pub min: Vec3,
     pub max: Vec3,
 }
 
 // The indices of a point along x, y and z, 0 to 95 each.
-#[derive(Drop)]
+#[derive(Clone, Copy)]
 pub struct Indices {
     pub i: u32,
     pub j: u32,
@@ -39,14 +41,14 @@ pub struct Indices {
 }
 
 // Where a ray along +X meets a triangle: at a distance, or not at all.
-#[derive(Drop)]
+#[derive(Clone, Copy)]
 pub enum Crossing {
     At(f64),
     Miss,
 }
 
 // What inside answers.
-#[derive(Drop)]
+#[derive(Clone, Copy)]
 pub enum Side {
     Refused(Cause),
     Outside,
@@ -54,7 +56,7 @@ pub enum Side {
 }
 
 // Where the cells of a filling lie: the padded box, a cell's widths, its volume.
-#[derive(Drop)]
+#[derive(Clone, Copy)]
 pub struct Frame {
     pub min: Vec3,
     pub max: Vec3,
@@ -63,7 +65,7 @@ pub struct Frame {
 }
 
 // How much scratch a filling is lent, or asks for: floats, offsets, words.
-#[derive(Drop)]
+#[derive(Clone, Copy)]
 pub struct Lent {
     pub floats: u64,
     pub offsets: u64,

@@ -1,4 +1,6 @@
 // The float leaves, all worked out from the bits: narrowing, finite tests, reads of patterns, and the index of a scaled coordinate.
+#![tactic(auto)]
+
 pub mod axis;
 pub mod number;
 pub mod pattern;
@@ -69,7 +71,7 @@ fn narrow_bits(b: u64) -> u32
 }
 
 // What narrowing answers: a finite binary32, or that the number is too large for one. A NaN is too large.
-#[derive(Drop)]
+#[derive(Clone, Copy)]
 pub enum Narrowed {
     Finite(f32),
     TooLarge,

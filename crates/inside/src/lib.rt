@@ -1,4 +1,6 @@
 // Whether a point lies inside a mesh (inside.rs): a scan with the accelerator's candidates, in place of its cell lists and stamps.
+#![tactic(auto)]
+
 pub mod crossings;
 
 ghost use Rattle.std.specs.Prelude.{◌≡◌, true, ◌/◌, ◌≤◌, length};

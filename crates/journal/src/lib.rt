@@ -1,4 +1,6 @@
 // The journal: judged, an entry more, an entry less.
+#![tactic(auto)]
+
 ghost use Rattle.std.specs.Prelude.{◌≡◌, [], ◌∷◌, ◌≤◌, ◌<◌};
 ghost use Rattle.rym1.specs.Causes.{number};
 ghost use Rattle.rym1.specs.Journal.{entries, journal_cause, push_cause, pushed, popped};

@@ -1,4 +1,6 @@
 // The lookup of a point file in lent words, and the causes up to 8 that it asks for: a cell's word is one more than the index of the last record that names the cell, or 0.
+#![tactic(auto)]
+
 ghost use Rattle.std.specs.Prelude.{◌≡◌, ℕ, ◌+◌, ◌*◌, ◌≤◌, ◌<◌, length, get_or, replicate, ltb};
 ghost use Rattle.rym1.specs.Bytes.{splice};
 ghost use Rattle.rym1.specs.Causes.{number, when, first};

@@ -1,4 +1,6 @@
 // The marks of a point file in lent words: for 32 cells one word of occupied marks and one running total.
+#![tactic(auto)]
+
 ghost use Rattle.std.specs.Prelude.{◌≡◌, ℕ, ◌+◌, ◌*◌, ◌%◌, ◌≤◌, ◌<◌, length, get_or};
 ghost use Rattle.rym1.specs.File.{grid, count, cube, groups, file_cause, work_cause};
 ghost use Rattle.marks.specs.Marks.{mark, tally, Entered, Marked};

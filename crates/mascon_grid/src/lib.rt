@@ -1,4 +1,6 @@
 // Fill: the point file of a mesh (mascon_grid.rs).
+#![tactic(auto)]
+
 pub mod scaling;
 
 ghost use Rattle.std.specs.Prelude.{◌≡◌, true, ◌+◌, ◌*◌, ◌≤◌, length, replicate};

@@ -1,4 +1,6 @@
 // Vectors and triangles (model.rs), and the mesh that is lent as little-endian bytes.
+#![tactic(auto)]
+
 ghost use Rattle.std.specs.Prelude.{◌≡◌, ◌+◌, ◌*◌, ◌≤◌, length};
 ghost use Rattle.filling.specs.Vector.{sub, cross, dot};
 ghost use Rattle.filling.specs.Lists.{vec3, triangle, triangles_at, up_to, vector_up_to, good_triangle, good_triangles, mesh_wrong};

@@ -1,1 +1,3 @@
 // 01's worked examples, held against the definitions. The crate has no function.
+#![tactic(auto)]
+

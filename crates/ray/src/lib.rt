@@ -1,4 +1,6 @@
 // Where a ray along +X crosses a triangle.
+#![tactic(auto)]
+
 pub mod quick;
 
 ghost use Rattle.std.specs.Prelude.{◌≡◌};

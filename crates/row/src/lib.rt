@@ -1,4 +1,6 @@
 // A whole row of points: the crossings of all of them from one reading of the row's list.
+#![tactic(auto)]
+
 ghost use Rattle.std.specs.Prelude.{◌≡◌, true, cond, ◌++◌, ℕ, ◌*◌, ◌+◌, ◌/◌, ◌≤◌, ◌<◌, length, get_or, leb};
 ghost use Rattle.filling.specs.declared.Crossing.TheVariants.{Miss};
 ghost use Rattle.filling.specs.Lists.{mesh, good_triangle, good_triangles};

@@ -1,4 +1,6 @@
 // A row of cells as runs of records: the one place that knows in which form the scratch stands.
+#![tactic(auto)]
+
 ghost use Rattle.std.specs.Prelude.{◌≡◌, ◌≤◌, ◌<◌, length};
 ghost use Rattle.rym1.specs.File.{grid, file_cause};
 ghost use Rattle.rym1.specs.Open.{occupied};
@@ -12,7 +14,7 @@ use points::records::{cell_number, count};
 use search::{Search, next};
 
 // How the words of scratch are laid out: marks and totals, or a word per cell.
-#[derive(Drop)]
+#[derive(Clone, Copy)]
 pub enum Form {
     Marks,
     Words,
@@ -56,7 +58,7 @@ pub fn fill(words: &mut [u32], file: &[u8], form: Form) -> u32
 }
 
 // Records on end, from an index on, that are a row's points from a place up to the next one to look at.
-#[derive(Drop)]
+#[derive(Clone, Copy)]
 pub struct Run {
     pub index: u32,
     pub count: u32,

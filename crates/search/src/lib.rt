@@ -1,11 +1,13 @@
 // The next occupied cell, by marks: a word without marks is passed over in one step, the first mark of any other is found by its trailing zeros.
+#![tactic(auto)]
+
 ghost use Rattle.std.specs.Prelude.{◌≡◌, ◌*◌, ◌≤◌, length};
 ghost use Rattle.rym1.specs.File.{groups};
 ghost use Rattle.search.specs.Next.{bit_at, next, words_read};
 ghost use Rattle.search.specs.Answers.{found, read};
 
 // The cell that is found and how many mark words were read, or how many were where there is none.
-#[derive(Drop)]
+#[derive(Clone, Copy)]
 pub enum Search {
     At(u32, u32),
     Nothing(u32),

@@ -1,4 +1,6 @@
 // A point file as the source of a tree: judged as build judges it, with its lookup.
+#![tactic(auto)]
+
 ghost use Rattle.source.specs.Source.{Sourced};
 
 use points::judge::{is_refused, parse_mascon_bytes};
@@ -7,7 +9,7 @@ use runs::{Form, fill, form_of, room};
 use rym1::Cause;
 
 // Why no tree is made of a file, or the form in which its lookup stands in the words.
-#[derive(Drop)]
+#[derive(Clone, Copy)]
 pub enum Source {
     Refused(Cause),
     Read(Form),

@@ -1,5 +1,7 @@
 // The visit of a box, z outermost, x innermost: the sums of its points, their order words.
 // Runs of records give them, whichever form the lent words have.
+#![tactic(auto)]
+
 pub mod ordered;
 
 ghost use Rattle.std.specs.Prelude.{◌≡◌, ◌+◌, ◌≤◌, ◌<◌, length, false};

@@ -1,5 +1,7 @@
 // Reads the first 16,384 bytes of standard input as a point file and says how large its tree is, in one line:
 // `nodes 3 order 9 bytes 340`, or `refused 6` with the cause's number. Its 4,096 words of scratch are enough for g up to 16, of a file in working form up to 40.
+#![tactic(auto)]
+
 use libc::{STDIN_FILENO, STDOUT_FILENO};
 use mascon_tree::build_mascon_tree;
 use number::cause_number;

@@ -1,4 +1,6 @@
 // Replays stored answers of the Rust oracle and says how many are the same. oracle/README.md says how they were made.
+#![tactic(auto)]
+
 mod replay;
 
 use replay::{Kind, replay_file};

@@ -7,7 +7,7 @@ use stored::{built, costed, edited, narrowed, opened, written};
 use stored_marks::searched;
 use stored_meshes::{crossed, filled, sided};
 
-#[derive(Drop)]
+#[derive(Clone, Copy)]
 pub enum Kind {
     Narrow,
     Open,
@@ -55,7 +55,7 @@ fn is_same_case(kind: Kind, case: &[u8]) -> bool {
     }
 }
 
-#[derive(Drop)]
+#[derive(Clone, Copy)]
 enum Seen {
     Same,
     Different,
@@ -77,7 +77,7 @@ fn next_case(fd: i32, kind: Kind, case: &mut [u8]) -> Seen {
     Seen::Different
 }
 
-#[derive(Drop)]
+#[derive(Clone, Copy)]
 struct Tally {
     same: u64,
     cases: u64,

@@ -1,4 +1,6 @@
 // The cells in z, y, x order: the records of those whose point lies inside, and the raw sums.
+#![tactic(auto)]
+
 pub mod frame;
 
 ghost use Rattle.std.specs.Prelude.{◌≡◌, cond, ◌&&◌, ◌+◌, ◌*◌, ◌≤◌, ◌<◌, length};
@@ -23,7 +25,7 @@ use inside::is_inside;
 use points::records::{cell_point, out_point};
 
 // How many points, the raw sums of their masses, and whether a mass is too large.
-#[derive(Drop)]
+#[derive(Clone, Copy)]
 pub struct Found {
     pub count: u32,
     pub cauchy: f64,
@@ -32,7 +34,7 @@ pub struct Found {
 }
 
 // What a visit comes to: its finds, or more points than half the cells.
-#[derive(Drop)]
+#[derive(Clone, Copy)]
 pub enum Visit {
     Done(Found),
     Full,

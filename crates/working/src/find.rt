@@ -6,7 +6,7 @@ ghost use Rattle.working.specs.Spotted.{Spotted};
 use points::records::{cell_number, count, grid, point_at};
 
 // The index of the cell's record, or how many records stand before its place.
-#[derive(Drop)]
+#[derive(Clone, Copy)]
 pub enum Spot {
     Held(u32),
     Vacant(u32),

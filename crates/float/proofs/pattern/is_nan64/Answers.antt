@@ -2,11 +2,7 @@
 use mathlib.Core.Path.{sym}
 use lib.Ieee.{binary64}
 use lib.Ieee.Bits.{nan_bits_above}
-use Rattle.float.proofs.pattern.is_nan64.Statement.{statement}
-use Rattle.float.proofs.pattern.is_nan64.Tie as tie
+use Rattle.float.proofs.pattern.is_nan64.Goals as goal
 
-returns : tie.Need-returns
+pub returns : goal.returns
 returns c = sym (nan_bits_above binary64 c.args.b)
-
-pub is-nan64-spec : {M : Type 1} → statement M
-is-nan64-spec = tie.close (tie.spec returns)

@@ -2,11 +2,7 @@
 use mathlib.Core.Path.{sym}
 use lib.Ieee.{binary32}
 use lib.Ieee.Bits.{nan_bits_above}
-use Rattle.float.proofs.pattern.is_nan32.Statement.{statement}
-use Rattle.float.proofs.pattern.is_nan32.Tie as tie
+use Rattle.float.proofs.pattern.is_nan32.Goals as goal
 
-returns : tie.Need-returns
+pub returns : goal.returns
 returns c = sym (nan_bits_above binary32 c.args.n)
-
-pub is-nan32-spec : {M : Type 1} → statement M
-is-nan32-spec = tie.close (tie.spec returns)

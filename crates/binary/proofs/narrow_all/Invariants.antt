@@ -1,0 +1,19 @@
+use Prim.Native.Nat.{ℕ, ◌+◌, ◌-◌, ◌≤◌}
+use mathlib.Core.Path.{◌≡◌, refl, sym, ap, ◌∙◌}
+use mathlib.Core.Bool.{not, true≢false}
+use native.Mathlib.Omega.{arith}
+use lib.ListN.{length, take, drop, set, length-set}
+use lib.Seq.{take_all, drop-length}
+use Rattle.float.specs.Narrow.{float_words, any_large}
+use Rattle.rym1.specs.File.{all_finite}
+use Rattle.binary.proofs.Words.{words_done, large_ends, finite_goes}
+use borrow.Author.Rules.{rules}
+use Rattle.binary.proofs.narrow_all.Given as goal
+
+abbrev pub invariant-loop-i : goal.invariant-loop-i
+invariant-loop-i l =
+    (l.i ≤ length l.xs) × (length l.words ≡ length l.xs) × (take l.i l.words ≡ float_words (take l.i l.xs))
+    × (any_large (drop l.i l.xs) ≡ any_large l.xs) × (all_finite (float_words (drop l.i l.xs)) ≡ all_finite (float_words l.xs))
+
+abbrev pub decreases-loop-i : goal.decreases-loop-i
+decreases-loop-i l = length l.xs - l.i

@@ -1,0 +1,32 @@
+-- `float::narrow` meets its contract: a NaN is told by `x != x`, and the pattern is that of the narrowed value. Assumes nothing.
+use borrow.Author.Rules.{rules}
+use borrow.Author.Tests.{not-true, not-false}
+use mathlib.Core.Path.{sym, subst}
+use lib.Dec.{T}
+use lib.Ieee.{binary64, fits}
+use Rattle.float.proofs.Kit.{equals_itself, no_nan_bits}
+use Rattle.float.proofs.Large.{nan_large, pattern_large, pattern_finite, told}
+use Rattle.float.proofs.narrow.Goals as goal
+
+pub returns-then-x : goal.returns-then-x
+returns-then-x c = told c.args.x (subst T (sym c.well_formed.0.1) tt) _ (nan_large c.args.x c.if-x.true)
+
+pub float_to_bits-x : goal.float_to_bits-x
+float_to_bits-x c = equals_itself c.args.x c.if-x.false
+
+pub returns-then-not-is_finite32 : goal.returns-then-not-is_finite32
+returns-then-not-is_finite32 c =
+    let p = c.narrow_bits-pattern in
+    let t = c.is_finite32 in
+    told c.args.x (subst T (sym c.well_formed.0.1) tt) _ (pattern_large c.args.x (subst T (sym c.well_formed.0.1) tt) p.result p.ensures t.result t.ensures c.if-not-is_finite32.true)
+
+pub float_from_bits-result : goal.float_from_bits-result
+float_from_bits-result c =
+    let p = c.narrow_bits-pattern in
+    no_nan_bits c.args.x (subst T (sym c.well_formed.0.1) tt) p.result p.ensures (equals_itself c.args.x c.if-x.false)
+
+pub returns : goal.returns
+returns c =
+    let p = c.narrow_bits-pattern in
+    let t = c.is_finite32 in
+    told c.args.x (subst T (sym c.well_formed.0.1) tt) _ (pattern_finite c.args.x (subst T (sym c.well_formed.0.1) tt) p.result p.ensures t.result t.ensures c.if-not-is_finite32.false)

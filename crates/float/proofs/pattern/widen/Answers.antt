@@ -1,0 +1,17 @@
+-- `float::pattern::widen` meets its contract: an `f64` holds what an `f32` holds. Assumes nothing.
+use mathlib.Core.Path.{◌∙◌}
+use lib.Ieee.{binary32, binary64}
+use Rattle.float.proofs.Finite.{no_number, reads_nan, may_read, may_widen}
+use borrow.Author.Rules.{rules}
+use Rattle.float.proofs.pattern.widen.Goals as goal
+
+pub returns-then-is_nan32 : goal.returns-then-is_nan32
+returns-then-is_nan32 c =
+    no_number binary64 ∙ reads_nan binary32 c.args.n c.is_nan32.result c.is_nan32.ensures c.if-is_nan32.true
+
+pub float_from_bits-result : goal.float_from_bits-result
+float_from_bits-result c = may_read binary32 c.args.n c.is_nan32.result c.is_nan32.ensures c.if-is_nan32.false
+
+pub float_to_float-result : goal.float_to_float-result
+float_to_float-result c =
+    may_widen c.args.n c.is_nan32.result c.is_nan32.ensures c.if-is_nan32.false
