@@ -125,7 +125,7 @@ module _ (s : List ℕ) (b : Bounds) (at : Indices) (o : Vec3) where
 -- ---- answers: each point of a row by the row's one list
 pub same_answer : (s : List ℕ) (b : Bounds) (x y z : Float) → let o : Vec3 = record { x = x; y = y; z = z } in
     is_inside b (mesh s) o ≡ odd_rest (crossings_in s b (indices b o) o (row_list s b (length s / 72) (row_pair b y z)))
-unfolding is_inside row_pair indices
+unfolding is_inside row_pair indices odd_rest
 same_answer s b x y z =
     let o : Vec3 = record { x = x; y = y; z = z } in
     let l = index_low (scaled b.min.y b.max.y y) in
