@@ -1,13 +1,13 @@
 -- `lookup::count_marked` meets its contract: what is found with what is to come is all of it. Assumes nothing.
 use Prim.Native.Nat.{◌+◌, ◌-◌, ◌≤◌}
 use mathlib.Core.Path.{◌≡◌}
-use mathlib.Core.Logic.{⊎_elim}
 use native.Mathlib.Omega.{arith}
 use lib.ListN.{get_or}
 use Rattle.lookup.specs.Lookup.{marked, one}
 use Rattle.lookup.proofs.Words.{marked_start, marked_turn, marked_end, one_zero, one_more}
 use borrow.Author.Rules.{rules}
 use Rattle.lookup.proofs.count_marked.Goals as goal
+use Rattle.lookup.proofs.count_marked.Goals.{then-words-i-ne0, else-words-i-ne0}
 
 pub loop-i-init : goal.loop-i-init
 loop-i-init c = (omega arith, omega arith, marked_start _ _)
@@ -17,8 +17,8 @@ loop-i-preserved c =
     let loop = c.loop-i in
     let words = c.args.words.now in
     let w = get_or words loop.i 0 in
-    let found : c.if-words-i-ne0.found ≡ loop.found + one w = ⊎_elim (λ t. omega (arith, t, one_more w t.0.taken)) (λ t. omega (arith, t, one_zero w t.0.left)) c.if-words-i-ne0.branch in
-    let few : c.if-words-i-ne0.found ≤ loop.found + 1 = ⊎_elim (λ t. omega (arith, t)) (λ t. omega (arith, t)) c.if-words-i-ne0.branch in
+    let found : c.if-words-i-ne0.found ≡ loop.found + one w = elim c.if-words-i-ne0.branch [ then-words-i-ne0 k ↦ omega (arith, one_more w k.if-words-i-ne0.true) | else-words-i-ne0 k ↦ omega (arith, one_zero w k.if-words-i-ne0.false) ] in
+    let few : c.if-words-i-ne0.found ≤ loop.found + 1 = elim c.if-words-i-ne0.branch [ then-words-i-ne0 k ↦ omega arith | else-words-i-ne0 k ↦ omega arith ] in
     (omega arith, omega arith, omega (arith, found, marked_turn words loop.i c.args.n (omega arith)))
 
 pub returns : goal.returns

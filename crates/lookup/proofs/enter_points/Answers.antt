@@ -18,7 +18,7 @@ point_at-p-requires c =
 pub cell_number-c-requires : goal.cell_number-c-requires
 cell_number-c-requires c =
     let loop = c.loop-i in
-    point_inside _ c.args.g loop.at loop.i c.args.n c.point_at-p.result c.requires.file_value.0 c.requires.file_value.1 c.requires.file_value.2 loop.invariant.1 (omega arith) c.point_at-p.ensures
+    let held = point_inside _ c.args.g loop.at loop.i c.args.n c.point_at-p.result c.requires.file_value.0 c.requires.file_value.1 c.requires.file_value.2 loop.invariant.1 (omega arith) c.point_at-p.ensures in record { g_bound = held.0; inside = held.1 }
 
 pub bounds-words-c : goal.bounds-words-c
 bounds-words-c c = omega (arith, c.cell_number-c.ensures.1, c.loop-i.invariant.3.room)

@@ -1,0 +1,14 @@
+-- `ray::quick::skips` meets its contract: the quick test answers for the ray's. Assumes nothing.
+use mathlib.Core.Path.{sym, ◌∙◌}
+use mathlib.Core.Bool.{true≢false}
+use borrow.Author.Rules.{rules}
+use borrow.Author.Tests.{not-false}
+use Rattle.ray.proofs.QuickLaws.{quick_misses}
+use Rattle.ray.proofs.quick.skips.Goals as goal
+
+pub returns-then-not-near : goal.returns-then-not-near
+returns-then-not-near c = λ e. absurd (true≢false (sym e))
+
+pub returns : goal.returns
+returns c =
+    λ e. quick_misses c.args.origin _ c.requires.at_in_bounds.1 (c.requires.origin_value (not-false c.args.near c.if-not-near.false-raw)) (sym c.quick_miss.ensures ∙ e)
