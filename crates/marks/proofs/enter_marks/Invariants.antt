@@ -1,0 +1,14 @@
+use Prim.Native.Nat.{◌+◌, ◌*◌, ◌-◌, ◌≤◌}
+use mathlib.Core.Path.{◌≡◌, refl}
+use native.Mathlib.Omega.{arith}
+use lib.ListN.{length, length-set}
+use Rattle.lookup.proofs.Words.{point_there, point_inside}
+use Rattle.marks.proofs.Entered.{Entering, enter_start, word_there, mark_fits, enter_turn, enter_end}
+use borrow.Author.Rules.{rules}
+use Rattle.marks.proofs.enter_marks.Given as goal
+
+abbrev pub invariant-loop-i : goal.invariant-loop-i
+invariant-loop-i l = (l.i ≤ l.n) × (l.at ≡ 64 + 16 * l.i) × (length l.words ≡ length l.initial.words) × Entering l.words l.file l.g l.at l.i l.n
+
+abbrev pub decreases-loop-i : goal.decreases-loop-i
+decreases-loop-i l = l.n - l.i

@@ -1,0 +1,40 @@
+-- `runs::fill` meets its contract: each form has its own; in working form there are as many cells as records. Assumes nothing.
+use Prim.Native.Nat.{◌≤◌}
+use mathlib.Core.Path.{◌≡◌, sym, ◌∙◌, subst}
+use lib.ListN.{length}
+use Rattle.rym1.specs.File.{grid}
+use Rattle.rym1.proofs.Accepted.{accepted}
+use Rattle.rym1.proofs.Opened.{working_count}
+use Rattle.runs.specs.declared.Form.{Form}
+use Rattle.runs.specs.Runs.{room_of, Held}
+use Rattle.runs.proofs.Runs.{marks_works}
+use borrow.Author.Rules.{rules}
+use Rattle.runs.proofs.fill.Goals as goal
+
+pub fill_marks-requires : goal.fill_marks-requires
+unfolding room_of
+fill_marks-requires c =
+    let a = c.args in
+    record { file_value = (c.requires.file_value.0, marks_works _ (sym c.in-Marks.is ∙ c.requires.file_value.1)); file_in_bounds = subst (λ (form : Form). room_of form (grid a.file.now) ≤ length a.words.now) c.in-Marks.is c.requires.file_in_bounds }
+
+pub count-requires : goal.count-requires
+count-requires c = (accepted _ c.requires.file_value.0).long
+
+pub fill_counted-requires : goal.fill_counted-requires
+unfolding room_of
+fill_counted-requires c =
+    let a = c.args in
+    record { file_value = c.requires.file_value.0; file_in_bounds = subst (λ (form : Form). room_of form (grid a.file.now) ≤ length a.words.now) c.in-Words.is c.requires.file_in_bounds }
+
+pub returns-in-Marks : goal.returns-in-Marks
+returns-in-Marks c =
+    let a = c.args in
+    let works = marks_works _ (sym c.in-Marks.is ∙ c.requires.file_value.1) in
+    let filled = c.fill_marks in
+    (c.count.ensures ∙ sym (working_count _ c.requires.file_value.0 works), subst (λ (form : Form). Held form filled.new.words a.file.now) (sym c.in-Marks.is) (works, filled.ensures.0), filled.ensures.1)
+
+pub returns-in-Words : goal.returns-in-Words
+returns-in-Words c =
+    let a = c.args in
+    let filled = c.fill_counted in
+    (filled.ensures.0, subst (λ (form : Form). Held form filled.new.words a.file.now) (sym c.in-Words.is) filled.ensures.1, filled.ensures.2)
