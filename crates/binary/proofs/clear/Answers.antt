@@ -1,5 +1,4 @@
 -- `binary::clear` meets its contract: the loop's invariant: the first i bytes are 0, and the rest is as it was (`borrow.Author.Fill`).
--- Assumes nothing.
 use Prim.Native.Nat.{ℕ, ◌<◌, ◌≤◌, ◌-◌}
 use mathlib.Core.Path.{ap, ◌≡◌, refl, ◌∙◌}
 use mathlib.Core.List.{List, ◌++◌, append-nil}

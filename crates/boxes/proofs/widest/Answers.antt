@@ -1,5 +1,4 @@
 -- `boxes::widest`: at each return the tests that led there say which case of the definition holds. Assumes nothing.
--- y is no wider than x, and x narrower than z
 use Prim.Native.Nat.{ℕ, ◌≤◌, ◌<◌}
 use native.Mathlib.Omega.{arith}
 use borrow.Author.Tests.{le-leb, lt-leb}

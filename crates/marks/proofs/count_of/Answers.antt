@@ -1,5 +1,4 @@
 -- `marks::count_of` meets its contract: within one word, or the total before the last word and its marks, less the index. Assumes nothing.
--- across words, n being the marks of the last word through the last cell
 use Prim.Native.Nat.{ℕ, ◌+◌, ◌-◌, ◌*◌, ◌/◌, ◌<◌, ◌≤◌, ◌%◌}
 use mathlib.Core.Path.{◌≡◌, refl}
 use mathlib.Core.List.{List}

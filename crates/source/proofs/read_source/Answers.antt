@@ -50,16 +50,18 @@ count-requires c =
 
 pub returns-then-fill-count : goal.returns-then-fill-count
 returns-then-fill-count c =
+    let passed : file_cause c.args.file.now ≡ 0 = let judged = c.parse_mascon_bytes-cause in none_found _ judged.result judged.ensures c.is_refused.ensures c.if-is_refused.false in
     let room_is : c.room.result ≡ room_of c.form_of-form.result (grid c.args.file.now) = c.room.ensures ∙ ap (room_of c.form_of-form.result) c.grid.ensures in
     let form = c.form_of-form in
     let filled = c.fill in
-    way_21 _ _ (passed c) form.result form.ensures c.room.result room_is c.if-words-room.false
+    way_21 _ _ passed form.result form.ensures c.room.result room_is c.if-words-room.false
     _ filled.ensures.1 filled.ensures.2 filled.result c.count.result filled.ensures.0 c.count.ensures c.if-fill-count.true
 
 pub returns : goal.returns
 returns c =
+    let passed : file_cause c.args.file.now ≡ 0 = let judged = c.parse_mascon_bytes-cause in none_found _ judged.result judged.ensures c.is_refused.ensures c.if-is_refused.false in
     let room_is : c.room.result ≡ room_of c.form_of-form.result (grid c.args.file.now) = c.room.ensures ∙ ap (room_of c.form_of-form.result) c.grid.ensures in
     let form = c.form_of-form in
     let filled = c.fill in
-    way_read _ _ (passed c) form.result form.ensures c.room.result room_is c.if-words-room.false
+    way_read _ _ passed form.result form.ensures c.room.result room_is c.if-words-room.false
     _ filled.ensures.1 filled.ensures.2 filled.result c.count.result filled.ensures.0 c.count.ensures c.if-fill-count.false

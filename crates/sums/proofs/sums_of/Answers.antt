@@ -34,4 +34,4 @@ returns c =
     let f = plane (look a.file.now) a.g a.b in
     let all : l.t ≡ sums_of (look a.file.now) a.g a.b =
     sums_end f a.b.z1 l.z l.t _ c.loop-z-test.false l.invariant.3 ∙ ap (Rest f a.b.z1 a.b.z0) c.nothing-t.ensures in
-    (all, ap (λ (t : Sums). t.count) all ∙ (total_count nothing (visit (look a.file.now) a.g a.b) ∙ zero-add _))
+    record { value = all; count_value = ap (λ (t : Sums). t.count) all ∙ (total_count nothing (visit (look a.file.now) a.g a.b) ∙ zero-add _) }

@@ -25,4 +25,4 @@ pub returns : goal.returns
 returns c =
     let a = c.args in
     let l = c.loop-y in
-    (sums_end (row (look a.file.now) a.g a.b a.z) a.b.y1 l.y l.t _ c.loop-y-test.false l.invariant.3, omega (arith, grid_few c.requires.ready, c.requires.within.to_y))
+    record { value = sums_end (row (look a.file.now) a.g a.b a.z) a.b.y1 l.y l.t _ c.loop-y-test.false l.invariant.3; count_bound = omega (arith, grid_few c.requires.ready, c.requires.within.to_y) }

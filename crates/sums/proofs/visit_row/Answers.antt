@@ -52,4 +52,4 @@ returns c =
     let all = sums_end f a.b.x1 l.x l.t _ c.loop-x-test.false l.invariant.1 in
     let points = ap (λ (t : Sums). t.count) all ∙ total_count a.s (row (look a.file.now) a.g a.b a.z a.y) in
     let few = run_few (look a.file.now) a.g a.z a.y a.b.x0 (a.b.x1 - a.b.x0) in
-    (all, omega (arith, points, few, grid_few c.requires.ready, c.requires.within.to_x))
+    record { value = all; count_bound = omega (arith, points, few, grid_few c.requires.ready, c.requires.within.to_x) }

@@ -1,0 +1,10 @@
+use Prim.Native.Nat.{◌-◌}
+use borrow.Author.Rules.{rules}
+use Rattle.working.proofs.Moving.{Down, down_start, down_again, down_end}
+use Rattle.working.proofs.moves.move_down.Given as goal
+
+abbrev pub invariant-loop-done : goal.invariant-loop-done
+invariant-loop-done l = Down l.initial.file l.file l.to l.k l.done
+
+abbrev pub decreases-loop-done : goal.decreases-loop-done
+decreases-loop-done l = l.k - l.done
