@@ -1,0 +1,18 @@
+use Prim.Native.Nat.{◌-◌, ◌≤◌, ◌+◌, ◌*◌}
+use mathlib.Core.Path.{◌≡◌, refl, sym, ap, ◌∙◌}
+use native.Mathlib.Omega.{arith}
+use mathlib.Core.List.{List}
+use Prim.Native.Nat.{ℕ}
+use lib.ListN.{length, take, get_or}
+use lib.Seq.{take_all}
+use Rattle.rym1.specs.Bytes.{splice, words_bytes, le}
+use Rattle.rym1.proofs.Bytes.{splice_none, words_more}
+use borrow.Author.Rules.{rules}
+use Rattle.node.proofs.out_words.Given as goal
+
+abbrev pub invariant-loop-i : goal.invariant-loop-i
+invariant-loop-i l =
+    (l.i ≤ 20) × (length l.words ≡ 20) × (length l.out ≡ length l.initial.out) × (l.out ≡ splice l.initial.out l.at (words_bytes (take l.i l.words)))
+
+abbrev pub decreases-loop-i : goal.decreases-loop-i
+decreases-loop-i l = 20 - l.i
