@@ -1,0 +1,10 @@
+-- `mascon_grid::scaling::are_fine` meets its contract: each way out rewrites with the test that led there. Assumes nothing.
+use borrow.Author.Tests.{not-true, not-false}
+use borrow.Author.Rules.{rules}
+use Rattle.mascon_grid.proofs.scaling.are_fine.Goals as goal
+
+pub returns-then-not-is_finite : goal.returns-then-not-is_finite
+returns-then-not-is_finite c = rw (← c.is_finite.ensures, not-true c.is_finite.result c.if-not-is_finite.true-raw)
+
+pub returns : goal.returns
+returns c = rw (← c.is_finite.ensures, not-false c.is_finite.result c.if-not-is_finite.false-raw) c.is_finite-2.ensures

@@ -1,0 +1,19 @@
+-- `mascon_grid::scaling::scale_of` meets its contract: each way out rewrites with the tests that led there. Assumes nothing.
+use lib.Ieee.{lt}
+use borrow.Author.Tests.{not-true, not-false}
+use Rattle.float.specs.Number.{zero64}
+use Rattle.filling.specs.Fill.{scale_of}
+use borrow.Author.Rules.{rules}
+use Rattle.mascon_grid.proofs.scaling.scale_of.Goals as goal
+
+pub returns-then-not-target : goal.returns-then-not-target
+unfolding scale_of
+returns-then-not-target c = rw (not-true (lt zero64 c.args.target) c.if-not-target.true-raw)
+
+pub returns-then-abs : goal.returns-then-abs
+unfolding scale_of
+returns-then-abs c = rw (not-false (lt zero64 c.args.target) c.if-not-target.false-raw, ← c.abs.ensures, c.if-abs.true)
+
+pub returns : goal.returns
+unfolding scale_of
+returns c = rw (not-false (lt zero64 c.args.target) c.if-not-target.false-raw, ← c.abs.ensures, c.if-abs.false)

@@ -1,0 +1,21 @@
+use Prim.Native.Nat.{ℕ, ◌≤◌, ◌<◌, ◌-◌, ◌+◌, ◌*◌}
+use mathlib.Core.Path.{◌≡◌, refl, ◌∙◌, ap}
+use mathlib.Core.List.{List, ◌++◌}
+use native.Mathlib.Omega.{arith}
+use lib.ListN.{length, get_or, set, length-set}
+use lib.Ieee.{Float}
+use borrow.Author.Rules.{rules}
+use Rattle.filling.specs.Inside.{listed}
+use Rattle.row.specs.Row.{stored, region, crossing_up_to}
+use Rattle.row.proofs.Laws.{own_fits, turn_done, turn_rest, stored_length, up_is}
+use Rattle.row.proofs.at_points.Given as goal
+
+abbrev pub invariant-loop-q : goal.invariant-loop-q
+invariant-loop-q l =
+    (l.q ≤ length l.xs) × (length l.fl ≡ length l.initial.fl) × (length l.counts ≡ length l.initial.counts)
+    × ((p : ℕ) → p < l.q → (get_or l.counts p 0 ≤ get_or l.initial.counts p 0 + 1)
+    × (region l.fl l.counts l.len p ≡ region l.initial.fl l.initial.counts l.len p ++ listed (crossing_up_to l.top l.t l.y l.z l.xs l.ix p)))
+    × ((p : ℕ) → l.q ≤ p → p < length l.xs → (get_or l.counts p 0 ≡ get_or l.initial.counts p 0) × (region l.fl l.counts l.len p ≡ region l.initial.fl l.initial.counts l.len p))
+
+abbrev pub decreases-loop-q : goal.decreases-loop-q
+decreases-loop-q l = length l.xs - l.q

@@ -1,0 +1,8 @@
+-- `visit::frame::padding` meets its contract. Assumes nothing.
+use Rattle.filling.specs.Frame.{padding}
+use borrow.Author.Rules.{rules}
+use Rattle.visit.proofs.frame.padding.Goals as goal
+
+pub returns : goal.returns
+unfolding padding
+returns c = rw (← c.sub-extent.ensures, ← c.scalar_min.ensures, ← c.scalar_min-shortest.ensures)
