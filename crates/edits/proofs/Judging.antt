@@ -1,7 +1,7 @@
 -- Laws of the causes that every edit refuses: how the code finds them, and what is known where it finds none. Assumes nothing.
-use Prim.Native.Nat.{ℕ, ◌<◌}
+use Prim.Native.Nat.{ℕ}
 use mathlib.Core.Path.{◌≡◌, sym, ◌∙◌}
-use mathlib.Core.Bool.{Bool, true, false, not}
+use mathlib.Core.Bool.{Bool, true, not}
 use mathlib.Core.List.{List}
 use lib.Dec.{eqb}
 use Rattle.rym1.specs.declared.Cause.{Cause}

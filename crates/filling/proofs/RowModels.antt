@@ -1,12 +1,11 @@
 -- Small lists, computed. Assumes nothing.
-use Prim.Native.Nat.{ℕ, ◌+◌, ◌*◌, ◌/◌, ◌%◌, max}
-use mathlib.Core.Path.{◌≡◌, refl}
+use Prim.Native.Nat.{ℕ, ◌/◌}
 use mathlib.Core.Bool.{Bool, true, false, ◌&&◌}
 use mathlib.Core.List.{List, [], ◌∷◌}
 use lib.Dec.{T, eqb}
 use lib.ListN.{length}
 use lib.Ieee.{Float, binary64, of_bits, of_int, lt, le, neg, add, sub, mul, div}
-use Rattle.float.specs.Axis.{greatest, axis_index}
+use Rattle.float.specs.Axis.{greatest}
 use Rattle.float.specs.Number.{abs, scalar_min, scalar_max}
 use Rattle.rym1.specs.Bytes.{word}
 use Rattle.filling.specs.Lists.{float, vec3, triangle, triangles_at, mesh}

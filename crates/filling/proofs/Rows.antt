@@ -1,7 +1,6 @@
 -- The lists by row yield what the scan does: the same candidates in the same order, each once, the same crossings, and so the same answers. Assumes nothing.
-use Prim.Native.Nat.{ℕ, zero, suc, ◌+◌, ◌-◌, ◌*◌, ◌/◌, ◌%◌, ◌≤◌, ◌<◌}
+use Prim.Native.Nat.{ℕ, zero, suc, ◌+◌, ◌*◌, ◌/◌, ◌%◌, ◌≤◌, ◌<◌}
 use native.Mathlib.Omega.{arith}
-use native.Mathlib.Nat.{sub-zero}
 use mathlib.Core.Path.{◌≡◌, refl, sym, ◌∙◌, ap}
 use mathlib.Core.List.{List, [], ◌∷◌, ◌++◌, append_assoc, append-nil}
 use mathlib.Core.Bool.{Bool, true, false, cond, ◌&&◌, and_assoc}
@@ -18,7 +17,7 @@ use Rattle.filling.specs.Lists.{triangle, triangles_at, mesh, good_triangle, goo
 use Rattle.filling.specs.Ray.{ray}
 use Rattle.filling.specs.Inside.{scaled, indices, reached, low_of, high_of, candidate, listed, crossing, crossings, odd_rest, is_inside}
 use Rattle.filling.proofs.Lists.{good_more}
-use Rattle.filling.proofs.Listed.{below, split}
+use Rattle.filling.proofs.Listed.{below}
 use Rattle.filling.specs.Rows.{one, list_of, spans, pair_of, triangle_of, meets, row_list, ahead, kept, scanned, crossing_on, crossings_in, row_pair}
 
 -- an index is at most 95

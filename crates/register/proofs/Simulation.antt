@@ -12,7 +12,7 @@ use lib.Seq.{length-take-le}
 use lib.Dec.{eqb, ltb}
 use borrow.Author.Tests.{ltb-false, le-ltb, eqb-false, ne_eqb}
 use Rattle.rym1.specs.Causes.{when, first, Outcome, outcome, refuse}
-use Rattle.rym1.specs.File.{grid, count, size, cell, cube, finite, place_cause, mass_cause, file_cause}
+use Rattle.rym1.specs.File.{grid, count, size, cell, cube, place_cause, mass_cause, file_cause}
 use Rattle.rym1.specs.Cells.{Masses, Map, look, records}
 use Rattle.rym1.specs.Open as files
 use Rattle.rym1.specs.Open.{Buffers, both}

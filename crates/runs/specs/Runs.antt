@@ -1,10 +1,10 @@
 -- A row of cells as records on end, and the words that are looked up, in either form. Definitions only.
-use Rattle.std.specs.Prelude.{ℕ, zero, suc, ◌+◌, ◌-◌, ◌*◌, ◌≤◌, ◌<◌, ◌≡◌, cond, List, [], ◌∷◌, ◌++◌, length, eqb}
+use Rattle.std.specs.Prelude.{ℕ, zero, suc, ◌+◌, ◌-◌, ◌*◌, ◌≤◌, ◌<◌, ◌≡◌, cond, List, [], ◌∷◌, ◌++◌, eqb}
 use Rattle.std.specs.Float.{binary32}
 use Rattle.std.specs.Float.Ieee.{of_bits}
 use Rattle.rym1.specs.Bytes.{word16, word32}
 use Rattle.rym1.specs.File.{grid, count, cube, groups, file_cause, work_cause}
-use Rattle.rym1.specs.Cells.{Slot, look}
+use Rattle.rym1.specs.Cells.{look}
 use Rattle.lookup.specs.Lookup.{Looked}
 use Rattle.marks.specs.Marks.{Marked}
 use Rattle.rtm1.specs.Visit.{Placed, run, point_in}

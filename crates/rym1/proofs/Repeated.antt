@@ -2,7 +2,7 @@
 -- and as many cells are occupied as there are records. Assumes nothing.
 use Prim.Native.Nat.{ℕ, zero, suc, ◌+◌, ◌*◌, ◌-◌, ◌≤◌, ◌<◌}
 use mathlib.Core.Path.{◌≡◌, refl, sym, ap, ◌∙◌}
-use mathlib.Core.Bool.{Bool, true, false, not, true≢false, ◌&&◌, ◌||◌}
+use mathlib.Core.Bool.{Bool, true, false, not, true≢false, ◌||◌}
 use mathlib.Core.Option.{Option, none, some}
 use mathlib.Core.List.{List, [], ◌∷◌, ◌++◌}
 use native.Mathlib.Nat.{zero-add}
@@ -20,7 +20,7 @@ use Rattle.rym1.specs.Open.{occupied_of, occupied, opened, both, open_cause, ope
 use Rattle.rym1.proofs.Causes.{and_true_l, and_true_r, or_false_l, or_false_r, when_zero, first_zero_l, first_zero_r}
 use Rattle.rym1.proofs.Accepted.{accepted_points}
 use Rattle.rym1.proofs.Points.{length_points_at}
-use Rattle.rym1.proofs.Cells.{cell_of_low, named_same, look_past, map_of, working_above, records_ext}
+use Rattle.rym1.proofs.Cells.{cell_of_low, named_same, look_past, map_of, records_ext}
 use Rattle.rym1.proofs.Opened.{opened_grid, opened_count, opened_accepted, opened_works, opened_again, working_count}
 
 or_right : (a b : Bool) → (a || b) ≡ true → b ≡ false → a ≡ true

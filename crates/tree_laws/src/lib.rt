@@ -1,3 +1,2 @@
 // Theorems about the trees of rtm1. The crate has no function.
 #![tactic(auto)]
-

@@ -1,10 +1,9 @@
 -- `accelerator::bounds_of` meets its contract: the box so far, taken on over the rest of the triangles, is the box of all. Assumes nothing.
-use Prim.Native.Nat.{◌*◌, ◌/◌, ◌-◌, ◌≤◌}
+use Prim.Native.Nat.{◌/◌, ◌-◌}
 use mathlib.Core.Path.{◌≡◌, ap}
 use native.Mathlib.Nat.{sub-zero}
 use native.Mathlib.Omega.{arith}
 use lib.ListN.{length}
-use borrow.Author.Rules.{rules}
 use Rattle.filling.specs.Lists.{triangles_at, mesh}
 use Rattle.filling.specs.Inside.{bounds_from, bounds}
 use Rattle.filling.proofs.Lists.{triangles_more}

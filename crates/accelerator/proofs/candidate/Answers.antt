@@ -1,5 +1,4 @@
 -- `accelerator::candidate` meets its contract: the calls, put together; a list of one triangle has the box of that triangle. Assumes nothing.
-use borrow.Author.Rules.{rules}
 use Rattle.filling.specs.Inside.{bounds, bounds_from, candidate}
 use Rattle.accelerator.proofs.candidate.Goals as goal
 

@@ -1,5 +1,4 @@
 -- `accelerator::indices` meets its contract: six calls, put together. Assumes nothing.
-use borrow.Author.Rules.{rules}
 use Rattle.filling.specs.Inside.{indices}
 use Rattle.accelerator.proofs.indices.Goals as goal
 

@@ -1,5 +1,4 @@
 -- `accelerator::padded` meets its contract: three calls, put together. Assumes nothing.
-use borrow.Author.Rules.{rules}
 use Rattle.filling.specs.Inside.{padded}
 use Rattle.accelerator.proofs.padded.Goals as goal
 

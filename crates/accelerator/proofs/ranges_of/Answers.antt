@@ -1,5 +1,4 @@
 -- `accelerator::ranges_of` meets its contract: the calls, put together; a list of one triangle has the box of that triangle. Assumes nothing.
-use borrow.Author.Rules.{rules}
 use Rattle.filling.specs.Inside.{bounds, bounds_from, low_of, high_of}
 use Rattle.accelerator.proofs.ranges_of.Goals as goal
 

@@ -1,6 +1,5 @@
 -- `accelerator::upper_x` meets its contract: a list of one triangle has the box of that triangle. Assumes nothing.
 use mathlib.Core.Path.{◌∙◌}
-use borrow.Author.Rules.{rules}
 use Rattle.filling.specs.Inside.{bounds, bounds_from, indices, high_of}
 use Rattle.accelerator.proofs.upper_x.Goals as goal
 

@@ -1,5 +1,4 @@
 -- `accelerator::with_point` meets its contract: six calls, put together. Assumes nothing.
-use borrow.Author.Rules.{rules}
 use Rattle.filling.specs.Inside.{with_point}
 use Rattle.accelerator.proofs.with_point.Goals as goal
 

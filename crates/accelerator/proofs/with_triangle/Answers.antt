@@ -1,5 +1,4 @@
 -- `accelerator::with_triangle` meets its contract: three calls, one upon the other. Assumes nothing.
-use borrow.Author.Rules.{rules}
 use Rattle.filling.specs.Inside.{with_triangle}
 use Rattle.accelerator.proofs.with_triangle.Goals as goal
 

@@ -1,10 +1,9 @@
 -- `binary::clear` meets its contract: the loop's invariant: the first i bytes are 0, and the rest is as it was (`borrow.Author.Fill`).
-use Prim.Native.Nat.{ℕ, ◌<◌, ◌≤◌, ◌-◌}
+use Prim.Native.Nat.{ℕ, ◌<◌}
 use mathlib.Core.Path.{ap, ◌≡◌, refl, ◌∙◌}
-use mathlib.Core.List.{List, ◌++◌, append-nil}
+use mathlib.Core.List.{List, append-nil}
 use native.Mathlib.Omega.{arith}
-use lib.ListN.{set, length, drop, replicate, length-set}
-use borrow.Author.Rules.{rules}
+use lib.ListN.{set, length, replicate, length-set}
 use lib.Seq.{drop-length}
 use borrow.Author.Fill.{fill_none, fill_more}
 use Rattle.binary.proofs.clear.Goals as goal

@@ -1,11 +1,7 @@
-use Prim.Native.Nat.{ℕ, ◌<◌, ◌≤◌, ◌-◌}
-use mathlib.Core.Path.{ap, ◌≡◌, refl, ◌∙◌}
-use mathlib.Core.List.{List, ◌++◌, append-nil}
-use native.Mathlib.Omega.{arith}
-use lib.ListN.{set, length, drop, replicate, length-set}
-use borrow.Author.Rules.{rules}
-use lib.Seq.{drop-length}
-use borrow.Author.Fill.{fill_none, fill_more}
+use Prim.Native.Nat.{◌≤◌, ◌-◌}
+use mathlib.Core.Path.{◌≡◌}
+use mathlib.Core.List.{◌++◌}
+use lib.ListN.{length, drop, replicate}
 use Rattle.binary.proofs.clear.Given as goal
 
 abbrev pub invariant-loop-i : goal.invariant-loop-i

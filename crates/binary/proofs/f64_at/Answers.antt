@@ -1,7 +1,6 @@
 -- `binary::f64_at` meets its contract. Assumes nothing.
 use mathlib.Core.Path.{ap, ◌∙◌}
 use lib.Ieee.{binary64, of_bits}
-use borrow.Author.Rules.{rules}
 use Rattle.binary.proofs.f64_at.Goals as goal
 
 pub returns : goal.returns

@@ -1,9 +1,9 @@
 -- `binary::narrow_all` meets its contract: the words before the next one are done, and what is left decides as all do. Assumes nothing.
-use Prim.Native.Nat.{ℕ, ◌+◌, ◌-◌, ◌≤◌}
+use Prim.Native.Nat.{ℕ, ◌+◌}
 use mathlib.Core.Path.{◌≡◌, refl, sym, ap, ◌∙◌}
 use mathlib.Core.Bool.{not, true≢false}
 use native.Mathlib.Omega.{arith}
-use lib.ListN.{length, take, drop, set, length-set}
+use lib.ListN.{length, take, set, length-set}
 use lib.Seq.{take_all, drop-length}
 use Rattle.float.specs.Narrow.{float_words, any_large}
 use Rattle.rym1.specs.File.{all_finite}

@@ -1,13 +1,8 @@
-use Prim.Native.Nat.{ℕ, ◌+◌, ◌-◌, ◌≤◌}
-use mathlib.Core.Path.{◌≡◌, refl, sym, ap, ◌∙◌}
-use mathlib.Core.Bool.{not, true≢false}
-use native.Mathlib.Omega.{arith}
-use lib.ListN.{length, take, drop, set, length-set}
-use lib.Seq.{take_all, drop-length}
+use Prim.Native.Nat.{◌-◌, ◌≤◌}
+use mathlib.Core.Path.{◌≡◌}
+use lib.ListN.{length, take, drop}
 use Rattle.float.specs.Narrow.{float_words, any_large}
 use Rattle.rym1.specs.File.{all_finite}
-use Rattle.binary.proofs.Words.{words_done, large_ends, finite_goes}
-use borrow.Author.Rules.{rules}
 use Rattle.binary.proofs.narrow_all.Given as goal
 
 abbrev pub invariant-loop-i : goal.invariant-loop-i

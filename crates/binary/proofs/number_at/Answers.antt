@@ -1,7 +1,6 @@
 -- `binary::number_at` meets its contract. Assumes nothing.
 use mathlib.Core.Path.{refl, ap, ◌∙◌}
 use lib.Ieee.{binary64, of_bits, nan_bits}
-use borrow.Author.Rules.{rules}
 use Rattle.float.proofs.Finite.{may_read}
 use Rattle.binary.proofs.number_at.Goals as goal
 

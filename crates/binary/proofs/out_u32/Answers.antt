@@ -1,7 +1,6 @@
 -- `binary::out_u32` meets its contract: four stores are a splice. Assumes nothing.
 use native.Mathlib.Omega.{arith}
 use lib.ListN.{length-set}
-use borrow.Author.Rules.{rules}
 use Rattle.rym1.specs.Bytes.{le}
 use Rattle.rym1.proofs.Bytes.{store4}
 use Rattle.binary.proofs.out_u32.Goals as goal

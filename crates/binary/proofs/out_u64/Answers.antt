@@ -4,7 +4,6 @@ use mathlib.Core.Path.{◌≡◌, ◌∙◌}
 use mathlib.Core.List.{List}
 use native.Mathlib.Omega.{arith}
 use lib.ListN.{length}
-use borrow.Author.Rules.{rules}
 use Rattle.rym1.specs.Bytes.{le, splice}
 use Rattle.rym1.proofs.Bytes.{length_le, le_mod, le_add, splice_splice}
 use Rattle.binary.proofs.out_u64.Goals as goal

@@ -1,10 +1,9 @@
 -- `binary::out_words` meets its contract: words one behind the other. Assumes nothing.
-use borrow.Author.Rules.{rules}
-use Prim.Native.Nat.{ℕ, ◌*◌, ◌-◌, ◌≤◌}
+use Prim.Native.Nat.{ℕ, ◌*◌}
 use mathlib.Core.Path.{◌≡◌, refl, sym, ap, ◌∙◌}
 use mathlib.Core.List.{List}
 use native.Mathlib.Omega.{arith}
-use lib.ListN.{length, get_or, take}
+use lib.ListN.{get_or, take}
 use lib.Seq.{take_all}
 use Rattle.rym1.specs.Bytes.{le, words_bytes, splice}
 use Rattle.rym1.proofs.Bytes.{splice_none, words_more}

@@ -1,12 +1,7 @@
-use borrow.Author.Rules.{rules}
-use Prim.Native.Nat.{ℕ, ◌*◌, ◌-◌, ◌≤◌}
-use mathlib.Core.Path.{◌≡◌, refl, sym, ap, ◌∙◌}
-use mathlib.Core.List.{List}
-use native.Mathlib.Omega.{arith}
-use lib.ListN.{length, get_or, take}
-use lib.Seq.{take_all}
-use Rattle.rym1.specs.Bytes.{le, words_bytes, splice}
-use Rattle.rym1.proofs.Bytes.{splice_none, words_more}
+use Prim.Native.Nat.{◌-◌, ◌≤◌}
+use mathlib.Core.Path.{◌≡◌}
+use lib.ListN.{length, take}
+use Rattle.rym1.specs.Bytes.{words_bytes, splice}
 use Rattle.binary.proofs.out_words.Given as goal
 
 abbrev pub invariant-loop-i : goal.invariant-loop-i

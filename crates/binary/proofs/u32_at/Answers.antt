@@ -1,6 +1,5 @@
 -- `binary::u32_at` meets its contract: the number is the sum of its four bytes, each at its place. Assumes nothing.
 use native.Mathlib.Omega.{arith}
-use borrow.Author.Rules.{rules}
 use Rattle.rym1.proofs.Bytes.{read4}
 use Rattle.binary.proofs.u32_at.Goals as goal
 

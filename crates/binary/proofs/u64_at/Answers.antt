@@ -1,6 +1,5 @@
 -- `binary::u64_at` meets its contract: eight bytes are four, and four behind them. Assumes nothing.
 use native.Mathlib.Omega.{arith}
-use borrow.Author.Rules.{rules}
 use Rattle.rym1.proofs.Bytes.{word_add}
 use Rattle.binary.proofs.u64_at.Goals as goal
 

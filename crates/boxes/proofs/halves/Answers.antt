@@ -2,7 +2,6 @@
 use mathlib.Core.Path.{ap, ◌∙◌}
 use Rattle.rtm1.specs.declared.Axis.{Axis}
 use Rattle.rtm1.specs.Boxes.{lower, upper}
-use borrow.Author.Rules.{rules}
 use Rattle.boxes.proofs.halves.Goals as goal
 
 pub returns : goal.returns

@@ -1,7 +1,6 @@
 -- `boxes::kind_of`: at each return the tests that led there say which case of `kind_of` holds. Assumes nothing.
 use borrow.Author.Tests.{eq-eqb, ne_eqb, le-leb, lt-leb}
 use Rattle.rtm1.specs.Tree.{kind_of}
-use borrow.Author.Rules.{rules}
 use Rattle.boxes.proofs.kind_of.Goals as goal
 
 pub returns-then-n-eq0 : goal.returns-then-n-eq0

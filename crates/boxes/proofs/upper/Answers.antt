@@ -2,7 +2,6 @@
 use mathlib.Core.Path.{sym, ap}
 use Rattle.rtm1.specs.declared.Axis.{Axis}
 use Rattle.rtm1.specs.Boxes.{upper}
-use borrow.Author.Rules.{rules}
 use Rattle.boxes.proofs.upper.Goals as goal
 
 pub returns-in-X : goal.returns-in-X

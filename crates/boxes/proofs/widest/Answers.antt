@@ -3,7 +3,6 @@ use Prim.Native.Nat.{ℕ, ◌≤◌, ◌<◌}
 use native.Mathlib.Omega.{arith}
 use borrow.Author.Tests.{le-leb, lt-leb}
 use Rattle.rtm1.specs.Boxes.{widest}
-use borrow.Author.Rules.{rules}
 use Rattle.boxes.proofs.widest.Goals as goal
 
 above : (x y z : ℕ) → y ≤ x → x < z → y < z

@@ -1,6 +1,5 @@
 -- `costliest::cells_of` meets its contract. Assumes nothing.
 use native.Mathlib.Omega.{arith}
-use borrow.Author.Rules.{rules}
 use Rattle.costliest.proofs.Full.{cells_fit}
 use Rattle.costliest.proofs.cells_of.Goals as goal
 

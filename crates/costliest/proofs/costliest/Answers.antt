@@ -8,7 +8,6 @@ use Rattle.rtm1.specs.Costliest.{cost}
 use Rattle.points.proofs.Refused.{none_found, some_found}
 use Rattle.costliest.specs.Every.{every}
 use Rattle.costliest.proofs.Written.{cost_refused, cost_done}
-use borrow.Author.Rules.{rules}
 use Rattle.costliest.proofs.costliest.Goals as goal
 
 pub returns-then-is_refused : goal.returns-then-is_refused

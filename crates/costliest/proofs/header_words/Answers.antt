@@ -1,6 +1,5 @@
 -- `costliest::header_words` meets its contract. Assumes nothing.
 use Rattle.rtm1.specs.Costliest.{costliest_header}
-use borrow.Author.Rules.{rules}
 use Rattle.costliest.proofs.header_words.Goals as goal
 
 pub returns : goal.returns

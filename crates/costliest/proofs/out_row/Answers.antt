@@ -1,12 +1,7 @@
 -- `costliest::out_row` meets its contract: what is written is that of the cells below x. Assumes nothing.
-use Prim.Native.Nat.{◌+◌, ◌-◌, ◌*◌, ◌≤◌}
+use Prim.Native.Nat.{◌+◌, ◌*◌}
 use mathlib.Core.Path.{◌≡◌, refl}
 use native.Mathlib.Omega.{arith}
-use borrow.Author.Rules.{rules}
-use Rattle.rym1.specs.Bytes.{splice}
-use Rattle.rym1.specs.File.{points_bytes}
-use Rattle.rym1.specs.Cells.{records_from}
-use Rattle.rtm1.specs.Costliest.{every_cell}
 use Rattle.costliest.proofs.Written.{run_start, row_turn, length_run}
 use Rattle.costliest.proofs.out_row.Goals as goal
 

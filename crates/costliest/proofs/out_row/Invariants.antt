@@ -1,12 +1,9 @@
-use Prim.Native.Nat.{◌+◌, ◌-◌, ◌*◌, ◌≤◌}
-use mathlib.Core.Path.{◌≡◌, refl}
-use native.Mathlib.Omega.{arith}
-use borrow.Author.Rules.{rules}
+use Prim.Native.Nat.{◌-◌, ◌*◌, ◌≤◌}
+use mathlib.Core.Path.{◌≡◌}
 use Rattle.rym1.specs.Bytes.{splice}
 use Rattle.rym1.specs.File.{points_bytes}
 use Rattle.rym1.specs.Cells.{records_from}
 use Rattle.rtm1.specs.Costliest.{every_cell}
-use Rattle.costliest.proofs.Written.{run_start, row_turn, length_run}
 use Rattle.costliest.proofs.out_row.Given as goal
 
 abbrev pub invariant-loop-x : goal.invariant-loop-x

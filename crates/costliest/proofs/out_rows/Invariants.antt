@@ -1,11 +1,9 @@
-use Prim.Native.Nat.{◌+◌, ◌-◌, ◌*◌, ◌≤◌}
-use mathlib.Core.Path.{◌≡◌, refl}
-use native.Mathlib.Omega.{arith}
+use Prim.Native.Nat.{◌-◌, ◌*◌, ◌≤◌}
+use mathlib.Core.Path.{◌≡◌}
 use Rattle.rym1.specs.Bytes.{splice}
 use Rattle.rym1.specs.File.{points_bytes}
 use Rattle.rym1.specs.Cells.{records_from}
 use Rattle.rtm1.specs.Costliest.{every_cell}
-use Rattle.costliest.proofs.Written.{squared, rows_start, rows_turn, rows_end, rows_below, rows_all, length_run}
 use Rattle.costliest.proofs.out_rows.Given as goal
 
 abbrev pub invariant-loop-row : goal.invariant-loop-row

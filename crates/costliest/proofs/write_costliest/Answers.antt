@@ -5,7 +5,6 @@ use Rattle.rym1.specs.Causes.{number, told}
 use Rattle.rym1.proofs.Accepted.{grid_right}
 use Rattle.points.proofs.Refused.{none_found, some_found}
 use Rattle.costliest.proofs.Written.{write_refused, write_9, header_room, write_done}
-use borrow.Author.Rules.{rules}
 use Rattle.costliest.proofs.write_costliest.Goals as goal
 
 pub returns-then-is_refused : goal.returns-then-is_refused

@@ -1,10 +1,9 @@
 -- `density::density_at` meets its contract: the rest of the kernels, added to the sum so far, gives what all give. Assumes nothing.
-use Prim.Native.Nat.{ℕ, ◌*◌, ◌-◌, ◌/◌, ◌≤◌}
+use Prim.Native.Nat.{ℕ, ◌-◌, ◌/◌}
 use mathlib.Core.Path.{◌≡◌, ap}
 use lib.ListN.{length}
 use native.Mathlib.Nat.{sub-zero}
 use native.Mathlib.Omega.{arith}
-use borrow.Author.Rules.{rules}
 use Rattle.float.specs.Number.{zero64}
 use Rattle.filling.specs.Lists.{kernels_at, kernels}
 use Rattle.filling.specs.Density.{density_from, density_at}

@@ -1,13 +1,7 @@
-use Prim.Native.Nat.{ℕ, ◌*◌, ◌-◌, ◌/◌, ◌≤◌}
-use mathlib.Core.Path.{◌≡◌, ap}
-use lib.ListN.{length}
-use native.Mathlib.Nat.{sub-zero}
-use native.Mathlib.Omega.{arith}
-use borrow.Author.Rules.{rules}
-use Rattle.float.specs.Number.{zero64}
+use Prim.Native.Nat.{◌*◌, ◌-◌, ◌≤◌}
+use mathlib.Core.Path.{◌≡◌}
 use Rattle.filling.specs.Lists.{kernels_at, kernels}
 use Rattle.filling.specs.Density.{density_from, density_at}
-use Rattle.filling.proofs.Lists.{kernels_more}
 use Rattle.density.proofs.density_at.Given as goal
 
 abbrev pub invariant-loop-i : goal.invariant-loop-i

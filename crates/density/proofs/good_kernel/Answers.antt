@@ -1,5 +1,4 @@
 -- `density::good_kernel` meets its contract. Assumes nothing.
-use borrow.Author.Rules.{rules}
 use borrow.Author.Tests.{not-true, not-false}
 use lib.Ieee.{le}
 use Rattle.float.specs.Number.{zero64}

@@ -1,9 +1,8 @@
 -- `density::good_kernels` meets its contract: the rest of the kernels decides as all do. Assumes nothing.
-use Prim.Native.Nat.{ℕ, ◌*◌, ◌-◌, ◌≤◌}
+use Prim.Native.Nat.{ℕ, ◌-◌}
 use mathlib.Core.Path.{◌≡◌, ap}
 use native.Mathlib.Nat.{sub-zero}
 use native.Mathlib.Omega.{arith}
-use borrow.Author.Rules.{rules}
 use borrow.Author.Tests.{not-true, not-false}
 use Rattle.filling.specs.Lists.{kernels_at, good_kernels}
 use Rattle.filling.proofs.Lists.{kernels_more}

@@ -1,11 +1,6 @@
-use Prim.Native.Nat.{ℕ, ◌*◌, ◌-◌, ◌≤◌}
-use mathlib.Core.Path.{◌≡◌, ap}
-use native.Mathlib.Nat.{sub-zero}
-use native.Mathlib.Omega.{arith}
-use borrow.Author.Rules.{rules}
-use borrow.Author.Tests.{not-true, not-false}
+use Prim.Native.Nat.{◌*◌, ◌-◌, ◌≤◌}
+use mathlib.Core.Path.{◌≡◌}
 use Rattle.filling.specs.Lists.{kernels_at, good_kernels}
-use Rattle.filling.proofs.Lists.{kernels_more}
 use Rattle.density.proofs.good_kernels.Given as goal
 
 abbrev pub invariant-loop-i : goal.invariant-loop-i

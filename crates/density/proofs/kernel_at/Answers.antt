@@ -1,5 +1,4 @@
 -- `density::kernel_at` meets its contract. Assumes nothing.
-use borrow.Author.Rules.{rules}
 use Rattle.filling.specs.Lists.{kernel, float}
 use Rattle.density.proofs.kernel_at.Goals as goal
 

@@ -1,5 +1,4 @@
 -- `density::weight` meets its contract. Assumes nothing.
-use borrow.Author.Rules.{rules}
 use Rattle.filling.specs.Density.{weight}
 use Rattle.density.proofs.weight.Goals as goal
 

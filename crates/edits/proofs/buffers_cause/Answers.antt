@@ -1,7 +1,6 @@
 -- `edits::buffers_cause` meets its contract: the first cause that is found. Assumes nothing.
 use Rattle.points.proofs.Refused.{none_found}
 use Rattle.edits.proofs.Judging.{file_refused, form_refused, journal_judged}
-use borrow.Author.Rules.{rules}
 use Rattle.edits.proofs.buffers_cause.Goals as goal
 
 pub returns-then-is_refused : goal.returns-then-is_refused

@@ -1,6 +1,5 @@
 -- `edits::is_entry_wrong` meets its contract: test by test. Assumes nothing.
 use Rattle.edits.proofs.Undoing.{wrong_kind, wrong_gap, wrong_cell, right_put, by_masses}
-use borrow.Author.Rules.{rules}
 use Rattle.edits.proofs.is_entry_wrong.Goals as goal
 
 pub returns-then-kind-eq0 : goal.returns-then-kind-eq0

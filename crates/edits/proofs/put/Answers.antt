@@ -3,7 +3,6 @@ use Rattle.rym1.proofs.Accepted.{accepted}
 use Rattle.points.proofs.Refused.{none_found}
 use Rattle.edits.proofs.Judging.{buffers_sound}
 use Rattle.edits.proofs.Putting.{way_buffers, way_own, way_full, way_put, own_inside, own_cell}
-use borrow.Author.Rules.{rules}
 use Rattle.edits.proofs.put.Goals as goal
 
 pub returns-then-is_refused : goal.returns-then-is_refused

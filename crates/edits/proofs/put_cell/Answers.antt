@@ -1,5 +1,4 @@
 -- `edits::put_cell` meets its contract: over the record that is found, or into an empty cell. Assumes nothing.
-use borrow.Author.Rules.{rules}
 use Rattle.edits.proofs.put_cell.Goals as goal
 
 pub put_over-requires : goal.put_over-requires

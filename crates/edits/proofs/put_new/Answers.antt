@@ -6,7 +6,6 @@ use Rattle.rym1.proofs.Cells.{cube_few}
 use Rattle.edits.proofs.Counts.{count_few}
 use Rattle.edits.proofs.Putting.{put_new_full, put_new_done}
 use Rattle.edits.proofs.Rooms.{room_more}
-use borrow.Author.Rules.{rules}
 use Rattle.edits.proofs.put_new.Goals as goal
 
 pub count-n-requires : goal.count-n-requires

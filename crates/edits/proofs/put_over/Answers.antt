@@ -4,7 +4,6 @@ use Rattle.rym1.specs.File.{grid, size}
 use Rattle.rym1.proofs.Accepted.{accepted}
 use Rattle.rym1.proofs.Cells.{cube_few}
 use Rattle.edits.proofs.Putting.{put_over_done}
-use borrow.Author.Rules.{rules}
 use Rattle.edits.proofs.put_over.Goals as goal
 
 pub count-n-requires : goal.count-n-requires

@@ -1,6 +1,5 @@
 -- `edits::remove_cell` meets its contract: the cell is empty, or holds a record. Assumes nothing.
 use Rattle.edits.proofs.Removing.{way_empty}
-use borrow.Author.Rules.{rules}
 use Rattle.edits.proofs.remove_cell.Goals as goal
 
 pub remove_held-requires : goal.remove_held-requires

@@ -10,7 +10,6 @@ use Rattle.rym1.proofs.Cells.{cube_few}
 use Rattle.points.proofs.Refused.{none_found}
 use Rattle.edits.proofs.Rooms.{record_there}
 use Rattle.edits.proofs.Removing.{way_full, way_removed}
-use borrow.Author.Rules.{rules}
 use Rattle.edits.proofs.remove_held.Goals as goal
 
 pub returns-then-is_refused : goal.returns-then-is_refused

@@ -9,7 +9,6 @@ use Rattle.edits.specs.Calls.{Sound}
 use Rattle.points.proofs.Refused.{none_found}
 use Rattle.edits.proofs.Judging.{buffers_sound}
 use Rattle.edits.proofs.Undoing.{last_read, way_buffers, way_none, way_rest}
-use borrow.Author.Rules.{rules}
 use Rattle.edits.proofs.undo.Goals as goal
 
 pub returns-then-is_refused : goal.returns-then-is_refused

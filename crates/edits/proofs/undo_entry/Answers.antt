@@ -4,7 +4,6 @@ use Rattle.rym1.proofs.Accepted.{accepted}
 use Rattle.points.proofs.Refused.{tested}
 use Rattle.edits.specs.Calls.{entry_wrong}
 use Rattle.edits.proofs.Undoing.{way_wrong}
-use borrow.Author.Rules.{rules}
 use Rattle.edits.proofs.undo_entry.Goals as goal
 
 pub grid-requires : goal.grid-requires

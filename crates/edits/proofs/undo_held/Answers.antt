@@ -3,7 +3,6 @@ use native.Mathlib.Omega.{arith}
 use Rattle.rym1.proofs.Accepted.{accepted}
 use Rattle.edits.proofs.Rooms.{record_there}
 use Rattle.edits.proofs.Undoing.{way_held, way_emptied, way_restored}
-use borrow.Author.Rules.{rules}
 use Rattle.edits.proofs.undo_held.Goals as goal
 
 pub count-n-requires : goal.count-n-requires

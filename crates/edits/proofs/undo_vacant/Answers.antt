@@ -4,7 +4,6 @@ use Rattle.rym1.proofs.Accepted.{accepted}
 use Rattle.edits.proofs.Counts.{count_few}
 use Rattle.edits.proofs.Rooms.{room_more}
 use Rattle.edits.proofs.Undoing.{way_vacant, way_full, way_back}
-use borrow.Author.Rules.{rules}
 use Rattle.edits.proofs.undo_vacant.Goals as goal
 
 pub count-n-requires : goal.count-n-requires

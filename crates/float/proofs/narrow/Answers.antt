@@ -1,9 +1,6 @@
 -- `float::narrow` meets its contract: a NaN is told by `x != x`, and the pattern is that of the narrowed value. Assumes nothing.
-use borrow.Author.Rules.{rules}
-use borrow.Author.Tests.{not-true, not-false}
 use mathlib.Core.Path.{sym, subst}
 use lib.Dec.{T}
-use lib.Ieee.{binary64, fits}
 use Rattle.float.proofs.Kit.{equals_itself, no_nan_bits}
 use Rattle.float.proofs.Large.{nan_large, pattern_large, pattern_finite, told}
 use Rattle.float.proofs.narrow.Goals as goal

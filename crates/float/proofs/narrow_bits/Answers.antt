@@ -1,5 +1,4 @@
 -- `float::narrow_bits` meets its contract: the masks are the fields, and the two tests those of `narrow`. Assumes nothing.
-use borrow.Author.Rules.{rules}
 use native.Mathlib.Omega.{arith}
 use Rattle.float.proofs.Machine.{frac_lt, exp_lt, infinite_bits, nan_bits_law, finite_bits, bits_lt}
 use Rattle.float.proofs.narrow_bits.Goals as goal

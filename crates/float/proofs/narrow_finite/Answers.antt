@@ -1,5 +1,4 @@
 -- `float::narrow_finite` meets its contract: each way through the code is one case of `narrow_finite` at 64 to 32 bits. Assumes nothing.
-use borrow.Author.Rules.{rules}
 use native.Mathlib.Omega.{arith}
 use Rattle.float.proofs.Machine.{none_at_zero, low_kept, low_gone, high_kept, high_over, sum_fits}
 use Rattle.float.proofs.narrow_finite.Goals as goal

@@ -1,5 +1,4 @@
 -- `float::nearest_shift` meets its contract: the remainder against one half picks the case of `closest`. Assumes nothing.
-use borrow.Author.Rules.{rules}
 use native.Mathlib.Omega.{arith}
 use Rattle.float.proofs.Machine.{some_bit, goes_down, goes_up, goes_even, room, room_even}
 use Rattle.float.proofs.nearest_shift.Goals as goal

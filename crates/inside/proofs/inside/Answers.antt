@@ -38,34 +38,32 @@ is_inside-requires c = record { s_in_bounds = search rules; s_value = mesh_good 
 
 pub returns-then-is_inside : goal.returns-then-is_inside
 unfolding side_number
-returns-then-is_inside c =
-    (
-      answered _ _ _ true
-          (sym c.mesh_wrong.ensures ∙ c.if-mesh_wrong.false)
-          (sym c.vector_up_to.ensures ∙ not-false _ c.if-not-vector_up_to.false-raw)
-          c.if-floats-s.false
-          (rw (
-            ← c.bounds_of.ensures,
-            ← c.padded-b.ensures,
-            ← c.is_inside.ensures,
-          )
-          (sym c.if-is_inside.true)),
-      λ h. absurd (omega arith),
-    )
+returns-then-is_inside c = (
+  answered _ _ _ true
+      (sym c.mesh_wrong.ensures ∙ c.if-mesh_wrong.false)
+      (sym c.vector_up_to.ensures ∙ not-false _ c.if-not-vector_up_to.false-raw)
+      c.if-floats-s.false
+      (rw (
+        ← c.bounds_of.ensures,
+        ← c.padded-b.ensures,
+        ← c.is_inside.ensures,
+      )
+      (sym c.if-is_inside.true)),
+  λ h. absurd (omega arith),
+)
 
 pub returns : goal.returns
 unfolding side_number
-returns c =
-    (
-      answered _ _ _ false
-          (sym c.mesh_wrong.ensures ∙ c.if-mesh_wrong.false)
-          (sym c.vector_up_to.ensures ∙ not-false _ c.if-not-vector_up_to.false-raw)
-          c.if-floats-s.false
-          (rw (
-            ← c.bounds_of.ensures,
-            ← c.padded-b.ensures,
-            ← c.is_inside.ensures,
-          )
-          (sym c.if-is_inside.false)),
-      λ h. absurd (omega arith),
-    )
+returns c = (
+  answered _ _ _ false
+      (sym c.mesh_wrong.ensures ∙ c.if-mesh_wrong.false)
+      (sym c.vector_up_to.ensures ∙ not-false _ c.if-not-vector_up_to.false-raw)
+      c.if-floats-s.false
+      (rw (
+        ← c.bounds_of.ensures,
+        ← c.padded-b.ensures,
+        ← c.is_inside.ensures,
+      )
+      (sym c.if-is_inside.false)),
+  λ h. absurd (omega arith),
+)

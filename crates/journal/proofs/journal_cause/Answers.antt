@@ -1,7 +1,6 @@
 -- `edits::journal::journal_cause` meets its contract: each way out is the law of its test. Assumes nothing.
 use Rattle.rym1.specs.Causes.{number}
 use Rattle.rym1.proofs.Journal.{journal_empty, journal_many, journal_short, journal_right}
-use borrow.Author.Rules.{rules}
 use Rattle.journal.proofs.journal_cause.Goals as goal
 
 pub returns-then-journal-eq0 : goal.returns-then-journal-eq0

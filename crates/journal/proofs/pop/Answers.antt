@@ -4,7 +4,6 @@ use mathlib.Core.Path.{ap}
 use native.Mathlib.Omega.{arith}
 use lib.ListN.{length-set}
 use Rattle.rym1.proofs.Journal.{accepted_journal, popped_stores}
-use borrow.Author.Rules.{rules}
 use Rattle.journal.proofs.pop.Goals as goal
 
 pub bounds-journal-at : goal.bounds-journal-at

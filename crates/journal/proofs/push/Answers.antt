@@ -2,7 +2,6 @@
 use native.Mathlib.Omega.{arith}
 use lib.ListN.{length-set}
 use Rattle.rym1.proofs.Journal.{pushable, pushed_stores}
-use borrow.Author.Rules.{rules}
 use Rattle.journal.proofs.push.Goals as goal
 
 pub bounds-journal-at : goal.bounds-journal-at

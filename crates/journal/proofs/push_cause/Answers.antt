@@ -1,7 +1,6 @@
 -- `edits::journal::push_cause` meets its contract: each way out is the law of its test. Assumes nothing.
 use Rattle.rym1.specs.Causes.{number}
 use Rattle.rym1.proofs.Journal.{push_short, push_most, push_right}
-use borrow.Author.Rules.{rules}
 use Rattle.journal.proofs.push_cause.Goals as goal
 
 pub returns-then-journal-e : goal.returns-then-journal-e

@@ -1,13 +1,11 @@
 -- `lookup::clear` meets its contract: zeros stored one behind the other are a run of zeros. Assumes nothing.
-use Prim.Native.Nat.{ℕ, ◌-◌, ◌≤◌}
+use Prim.Native.Nat.{ℕ}
 use mathlib.Core.Path.{◌≡◌, refl, sym, ap, ◌∙◌}
 use mathlib.Core.List.{List}
 use native.Mathlib.Omega.{arith}
-use lib.ListN.{length, set, replicate, length-set}
-use Rattle.rym1.specs.Bytes.{splice}
+use lib.ListN.{set, length-set}
 use Rattle.rym1.proofs.Bytes.{splice_none}
 use Rattle.lookup.proofs.Words.{zeros_more}
-use borrow.Author.Rules.{rules}
 use Rattle.lookup.proofs.clear.Goals as goal
 
 pub loop-i-init : goal.loop-i-init

@@ -1,12 +1,7 @@
-use Prim.Native.Nat.{ℕ, ◌-◌, ◌≤◌}
-use mathlib.Core.Path.{◌≡◌, refl, sym, ap, ◌∙◌}
-use mathlib.Core.List.{List}
-use native.Mathlib.Omega.{arith}
-use lib.ListN.{length, set, replicate, length-set}
+use Prim.Native.Nat.{◌-◌, ◌≤◌}
+use mathlib.Core.Path.{◌≡◌}
+use lib.ListN.{length, replicate}
 use Rattle.rym1.specs.Bytes.{splice}
-use Rattle.rym1.proofs.Bytes.{splice_none}
-use Rattle.lookup.proofs.Words.{zeros_more}
-use borrow.Author.Rules.{rules}
 use Rattle.lookup.proofs.clear.Given as goal
 
 abbrev pub invariant-loop-i : goal.invariant-loop-i

@@ -1,11 +1,10 @@
 -- `lookup::count_marked` meets its contract: what is found with what is to come is all of it. Assumes nothing.
-use Prim.Native.Nat.{◌+◌, ◌-◌, ◌≤◌}
+use Prim.Native.Nat.{◌+◌, ◌≤◌}
 use mathlib.Core.Path.{◌≡◌}
 use native.Mathlib.Omega.{arith}
 use lib.ListN.{get_or}
-use Rattle.lookup.specs.Lookup.{marked, one}
+use Rattle.lookup.specs.Lookup.{one}
 use Rattle.lookup.proofs.Words.{marked_start, marked_turn, marked_end, one_zero, one_more}
-use borrow.Author.Rules.{rules}
 use Rattle.lookup.proofs.count_marked.Goals as goal
 use Rattle.lookup.proofs.count_marked.Goals.{then-words-i-ne0, else-words-i-ne0}
 

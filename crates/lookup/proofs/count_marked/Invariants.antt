@@ -1,11 +1,6 @@
 use Prim.Native.Nat.{◌+◌, ◌-◌, ◌≤◌}
 use mathlib.Core.Path.{◌≡◌}
-use mathlib.Core.Logic.{⊎_elim}
-use native.Mathlib.Omega.{arith}
-use lib.ListN.{get_or}
-use Rattle.lookup.specs.Lookup.{marked, one}
-use Rattle.lookup.proofs.Words.{marked_start, marked_turn, marked_end, one_zero, one_more}
-use borrow.Author.Rules.{rules}
+use Rattle.lookup.specs.Lookup.{marked}
 use Rattle.lookup.proofs.count_marked.Given as goal
 
 abbrev pub invariant-loop-i : goal.invariant-loop-i

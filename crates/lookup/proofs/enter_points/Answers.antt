@@ -1,9 +1,8 @@
 -- `lookup::enter_points` meets its contract: what is entered, under what is still to come, is the file's lookup. Assumes nothing.
-use Prim.Native.Nat.{◌+◌, ◌*◌, ◌-◌, ◌≤◌}
-use mathlib.Core.Path.{◌≡◌, refl}
+use mathlib.Core.Path.{refl}
 use native.Mathlib.Omega.{arith}
-use lib.ListN.{length, length-set}
-use Rattle.lookup.proofs.Words.{Entering, enter_start, enter_turn, enter_end, point_there, point_inside}
+use lib.ListN.{length-set}
+use Rattle.lookup.proofs.Words.{enter_start, enter_turn, enter_end, point_there, point_inside}
 use borrow.Author.Rules.{rules}
 use Rattle.lookup.proofs.enter_points.Goals as goal
 

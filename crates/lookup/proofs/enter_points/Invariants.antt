@@ -1,9 +1,7 @@
 use Prim.Native.Nat.{◌+◌, ◌*◌, ◌-◌, ◌≤◌}
-use mathlib.Core.Path.{◌≡◌, refl}
-use native.Mathlib.Omega.{arith}
-use lib.ListN.{length, length-set}
-use Rattle.lookup.proofs.Words.{Entering, enter_start, enter_turn, enter_end, point_there, point_inside}
-use borrow.Author.Rules.{rules}
+use mathlib.Core.Path.{◌≡◌}
+use lib.ListN.{length}
+use Rattle.lookup.proofs.Words.{Entering}
 use Rattle.lookup.proofs.enter_points.Given as goal
 
 abbrev pub invariant-loop-i : goal.invariant-loop-i

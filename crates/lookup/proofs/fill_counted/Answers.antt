@@ -4,7 +4,6 @@ use native.Mathlib.Omega.{arith}
 use Rattle.rym1.specs.File.{cube}
 use Rattle.rym1.proofs.Accepted.{accepted}
 use Rattle.lookup.proofs.Words.{occupied_is}
-use borrow.Author.Rules.{rules}
 use Rattle.lookup.proofs.fill_counted.Goals as goal
 
 pub grid-requires : goal.grid-requires

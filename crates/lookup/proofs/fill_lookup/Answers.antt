@@ -2,10 +2,9 @@
 use Prim.Native.Nat.{◌≤◌}
 use mathlib.Core.Path.{ap, ◌∙◌}
 use lib.ListN.{length}
-use Rattle.rym1.specs.File.{cube, grid}
+use Rattle.rym1.specs.File.{cube}
 use Rattle.rym1.proofs.Accepted.{accepted}
 use Rattle.lookup.proofs.Words.{cleared}
-use borrow.Author.Rules.{rules}
 use Rattle.lookup.proofs.fill_lookup.Goals as goal
 
 pub grid-g-requires : goal.grid-g-requires

@@ -5,7 +5,6 @@ use Rattle.rym1.specs.File.{cube}
 use Rattle.rym1.proofs.Accepted.{accepted}
 use Rattle.points.proofs.Refused.{refused, none_found}
 use Rattle.lookup.proofs.Reading.{read_file, read_8, read_none}
-use borrow.Author.Rules.{rules}
 use Rattle.lookup.proofs.read_cause.Goals as goal
 
 pub returns-then-is_refused : goal.returns-then-is_refused

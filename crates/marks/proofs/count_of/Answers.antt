@@ -3,13 +3,12 @@ use Prim.Native.Nat.{ℕ, ◌+◌, ◌-◌, ◌*◌, ◌/◌, ◌<◌, ◌≤◌
 use mathlib.Core.Path.{◌≡◌, refl}
 use mathlib.Core.List.{List}
 use native.Mathlib.Omega.{arith}
-use lib.ListN.{length, get_or}
+use lib.ListN.{get_or}
 use Rattle.rym1.specs.File.{grid, cube, file_cause}
 use Rattle.rym1.proofs.Accepted.{accepted}
 use Rattle.rym1.proofs.Cells.{cube_few}
 use Rattle.marks.specs.Marks.{mark, tally, Marked}
 use Rattle.marks.proofs.Index.{group_of, across, tally_few}
-use borrow.Author.Rules.{rules}
 use Rattle.marks.proofs.count_of.Goals as goal
 
 through : (words f : List ℕ) → Marked words f → (c w n : ℕ) → 0 < w → c + w ≤ cube (grid f)

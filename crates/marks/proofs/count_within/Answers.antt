@@ -1,11 +1,9 @@
 -- `marks::count_within` meets its contract: the ones of the word's marks from the cell on, masked; all of them where the mask is full. Assumes nothing.
-use Prim.Native.Nat.{◌+◌, ◌-◌, ◌*◌, ◌/◌, ◌<◌, ◌%◌}
+use Prim.Native.Nat.{◌-◌}
 use native.Mathlib.Omega.{arith}
-use lib.ListN.{length}
 use lib.Pow.{pow_pos}
 use Rattle.rym1.specs.File.{grid, cube}
 use Rattle.marks.proofs.Index.{group_of, shifted, half_word, part_ones, part_full, tally_few}
-use borrow.Author.Rules.{rules}
 use Rattle.marks.proofs.count_within.Goals as goal
 
 pub overflow_sub-mask-2 : goal.overflow_sub-mask-2

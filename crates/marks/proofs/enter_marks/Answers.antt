@@ -1,10 +1,9 @@
 -- `marks::enter_marks` meets its contract: what is entered, with what is still to come, is the file's marks. Assumes nothing.
-use Prim.Native.Nat.{◌+◌, ◌*◌, ◌-◌, ◌≤◌}
-use mathlib.Core.Path.{◌≡◌, refl}
+use mathlib.Core.Path.{refl}
 use native.Mathlib.Omega.{arith}
-use lib.ListN.{length, length-set}
+use lib.ListN.{length-set}
 use Rattle.lookup.proofs.Words.{point_there, point_inside}
-use Rattle.marks.proofs.Entered.{Entering, enter_start, word_there, mark_fits, enter_turn, enter_end}
+use Rattle.marks.proofs.Entered.{enter_start, word_there, mark_fits, enter_turn, enter_end}
 use borrow.Author.Rules.{rules}
 use Rattle.marks.proofs.enter_marks.Goals as goal
 

@@ -1,10 +1,7 @@
 use Prim.Native.Nat.{◌+◌, ◌*◌, ◌-◌, ◌≤◌}
-use mathlib.Core.Path.{◌≡◌, refl}
-use native.Mathlib.Omega.{arith}
-use lib.ListN.{length, length-set}
-use Rattle.lookup.proofs.Words.{point_there, point_inside}
-use Rattle.marks.proofs.Entered.{Entering, enter_start, word_there, mark_fits, enter_turn, enter_end}
-use borrow.Author.Rules.{rules}
+use mathlib.Core.Path.{◌≡◌}
+use lib.ListN.{length}
+use Rattle.marks.proofs.Entered.{Entering}
 use Rattle.marks.proofs.enter_marks.Given as goal
 
 abbrev pub invariant-loop-i : goal.invariant-loop-i

@@ -1,10 +1,9 @@
 -- `marks::enter_totals` meets its contract: the total before a word is how many lower cells are occupied. Assumes nothing.
-use Prim.Native.Nat.{◌+◌, ◌-◌, ◌*◌, ◌≤◌}
-use mathlib.Core.Path.{◌≡◌, refl}
+use Prim.Native.Nat.{◌+◌, ◌*◌}
+use mathlib.Core.Path.{refl}
 use native.Mathlib.Omega.{arith}
-use lib.ListN.{length, length-set}
-use Rattle.marks.proofs.Entered.{Totalling, total_start, groups_few, pair_there, total_fits, total_turn, total_end}
-use borrow.Author.Rules.{rules}
+use lib.ListN.{length-set}
+use Rattle.marks.proofs.Entered.{total_start, groups_few, pair_there, total_fits, total_turn, total_end}
 use Rattle.marks.proofs.enter_totals.Goals as goal
 
 pub loop-i-init : goal.loop-i-init

@@ -1,9 +1,7 @@
-use Prim.Native.Nat.{◌+◌, ◌-◌, ◌*◌, ◌≤◌}
-use mathlib.Core.Path.{◌≡◌, refl}
-use native.Mathlib.Omega.{arith}
-use lib.ListN.{length, length-set}
-use Rattle.marks.proofs.Entered.{Totalling, total_start, groups_few, pair_there, total_fits, total_turn, total_end}
-use borrow.Author.Rules.{rules}
+use Prim.Native.Nat.{◌-◌, ◌≤◌}
+use mathlib.Core.Path.{◌≡◌}
+use lib.ListN.{length}
+use Rattle.marks.proofs.Entered.{Totalling}
 use Rattle.marks.proofs.enter_totals.Given as goal
 
 abbrev pub invariant-loop-i : goal.invariant-loop-i

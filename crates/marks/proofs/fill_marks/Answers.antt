@@ -6,7 +6,6 @@ use lib.ListN.{length}
 use Rattle.rym1.specs.File.{cube, groups}
 use Rattle.rym1.proofs.Accepted.{accepted}
 use Rattle.lookup.proofs.Words.{cleared}
-use borrow.Author.Rules.{rules}
 use Rattle.marks.proofs.fill_marks.Goals as goal
 
 pub grid-g-requires : goal.grid-g-requires

@@ -1,14 +1,11 @@
 -- `marks::index_of` meets its contract. Assumes nothing.
-use Prim.Native.Nat.{◌+◌, ◌*◌, ◌/◌, ◌<◌, ◌%◌}
+use Prim.Native.Nat.{◌%◌}
 use native.Mathlib.Omega.{arith}
-use lib.ListN.{length}
 use lib.Pow.{pow_pos}
 use Rattle.rym1.specs.File.{grid, cube}
 use Rattle.rym1.proofs.Accepted.{accepted}
 use Rattle.rym1.proofs.Cells.{cube_few}
-use Rattle.marks.specs.Marks.{tally, mark}
 use Rattle.marks.proofs.Index.{group_of, shifted, index_code, tally_few}
-use borrow.Author.Rules.{rules}
 use Rattle.marks.proofs.index_of.Goals as goal
 
 pub overflow_sub-below : goal.overflow_sub-below

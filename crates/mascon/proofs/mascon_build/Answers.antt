@@ -1,6 +1,5 @@
 -- `mascon::mascon_build` meets its contract: `mascon_tree::build_mascon_tree`'s, its answer as numbers. Assumes nothing.
 use Rattle.rtm1.specs.Build.{told}
-use borrow.Author.Rules.{rules}
 use Rattle.mascon.proofs.mascon_build.Goals as goal
 
 pub returns : goal.returns

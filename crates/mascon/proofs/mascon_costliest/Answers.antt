@@ -1,6 +1,5 @@
 -- `mascon::mascon_costliest` meets its contract: `costliest::costliest`'s, its answer as numbers. Assumes nothing.
 use mathlib.Core.Path.{◌∙◌}
-use borrow.Author.Rules.{rules}
 use Rattle.mascon.proofs.mascon_costliest.Goals as goal
 
 pub returns : goal.returns

@@ -1,5 +1,4 @@
 -- `mascon::mascon_fill` meets its contract: `mascon_grid::build_mascon`'s, its answer as a number. Assumes nothing.
-use borrow.Author.Rules.{rules}
 use Rattle.mascon.proofs.mascon_fill.Goals as goal
 
 pub returns : goal.returns

@@ -1,5 +1,4 @@
 -- `mascon::mascon_fold` meets its contract: `opening::fold`'s, its answer as a number. Assumes nothing.
-use borrow.Author.Rules.{rules}
 use Rattle.mascon.proofs.mascon_fold.Goals as goal
 
 pub returns : goal.returns

@@ -1,5 +1,4 @@
 -- `mascon::mascon_inside` meets its contract: `inside::inside`'s, its answer as a number. Assumes nothing.
-use borrow.Author.Rules.{rules}
 use Rattle.mascon.proofs.mascon_inside.Goals as goal
 
 pub returns : goal.returns

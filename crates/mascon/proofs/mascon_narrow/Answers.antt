@@ -1,7 +1,6 @@
 -- `mascon::mascon_narrow` meets its contract: `float::narrow`'s, its answer as a number. Assumes nothing.
 use mathlib.Core.Path.{ap, ◌∙◌}
 use Rattle.float.specs.Narrow.{narrow_number}
-use borrow.Author.Rules.{rules}
 use Rattle.mascon.proofs.mascon_narrow.Goals as goal
 
 pub returns : goal.returns

@@ -1,5 +1,4 @@
 -- `mascon::mascon_open` meets its contract: `opening::open`'s, its answer as a number. Assumes nothing.
-use borrow.Author.Rules.{rules}
 use Rattle.mascon.proofs.mascon_open.Goals as goal
 
 pub returns : goal.returns

@@ -1,5 +1,4 @@
 -- `mascon::mascon_put` meets its contract: `edits::put`'s, its answer as a number. Assumes nothing.
-use borrow.Author.Rules.{rules}
 use Rattle.mascon.proofs.mascon_put.Goals as goal
 
 pub returns : goal.returns

@@ -1,5 +1,4 @@
 -- `mascon::mascon_remove` meets its contract: `edits::remove`'s, its answer as a number. Assumes nothing.
-use borrow.Author.Rules.{rules}
 use Rattle.mascon.proofs.mascon_remove.Goals as goal
 
 pub returns : goal.returns

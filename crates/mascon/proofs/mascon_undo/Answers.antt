@@ -1,5 +1,4 @@
 -- `mascon::mascon_undo` meets its contract: `edits::undo`'s, its answer as a number. Assumes nothing.
-use borrow.Author.Rules.{rules}
 use Rattle.mascon.proofs.mascon_undo.Goals as goal
 
 pub returns : goal.returns

@@ -1,5 +1,4 @@
 -- `mascon::mascon_write_costliest` meets its contract: `costliest::write_costliest`'s, its answer a number. Assumes nothing.
-use borrow.Author.Rules.{rules}
 use Rattle.mascon.proofs.mascon_write_costliest.Goals as goal
 
 pub returns : goal.returns

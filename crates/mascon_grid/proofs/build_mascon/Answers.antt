@@ -1,6 +1,5 @@
 -- `mascon_grid::build_mascon` meets its contract: each return is a way of `Outcomes`. Assumes nothing.
 use mathlib.Core.Path.{ap, ◌∙◌}
-use borrow.Author.Rules.{rules}
 use Rattle.filling.specs.Inside.{padded}
 use Rattle.filling.specs.Frame.{frame}
 use Rattle.rym1.proofs.Accepted.{grid_right}

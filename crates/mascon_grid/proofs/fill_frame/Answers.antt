@@ -1,5 +1,4 @@
 -- `mascon_grid::fill_frame` meets its contract: the visit is full, a mass is too large, or its finds are finished. Assumes nothing.
-use borrow.Author.Rules.{rules}
 use Rattle.mascon_grid.proofs.Outcomes.{way_18, way_large, finds_room, way_finished}
 use Rattle.mascon_grid.proofs.fill_frame.Goals as goal
 

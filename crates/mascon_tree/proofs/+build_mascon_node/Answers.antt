@@ -12,7 +12,7 @@ use Rattle.rtm1.specs.declared.Sums.{Sums}
 use Rattle.rtm1.specs.declared.Kind.TheVariants.{Split}
 use Rattle.rtm1.specs.Boxes.{Within, cells, widest, lower, upper}
 use Rattle.rtm1.specs.Visit.{visit}
-use Rattle.rtm1.specs.Tree.{Tree, empty, leaf, split, kind_of, kind_at, indices, sums_of, tree_of}
+use Rattle.rtm1.specs.Tree.{Tree, split, kind_of, kind_at, sums_of, tree_of}
 use Rattle.rtm1.proofs.Boxes.{Halves, halves, within_most}
 use Rattle.rtm1.proofs.Growth.{tree_empty}
 use Rattle.rtm1.proofs.Order.{empty_sums}
@@ -57,8 +57,7 @@ build_mascon_node-lower-requires t c =
     let two = split_halves (file.look c.args.file.now) c.args.set.g c.args.b k c.requires.within in
     let h = c.halves-half in
     let tree = the_split (file.look c.args.file.now) c.args.set.g c.args.b h.result.low h.result.high c.sums_of-s.result c.requires.within c.sums_of-s.ensures.value k h.ensures.0 h.ensures.1 in
-    let space = subst (λ (u : Tree). Space c.args.set.write c.args.out.now c.args.set.at c.args.node c.args.before c.args.set.frame u) tree c.requires.space in
-    (
+    let space = subst (λ (u : Tree). Space c.args.set.write c.args.out.now c.args.set.at c.args.node c.args.before c.args.set.frame u) tree c.requires.space in (
       subst (λ (q : Cells). cells q < t) (sym h.ensures.0) (subst (λ (v : ℕ). cells (lower (widest c.args.b) c.args.b) < v) c.decreases two.low.fewer),
       (c.requires.ready, (subst (λ (q : Cells). Within c.args.set.g q) (sym h.ensures.0) two.low.within, room_low _ _ _ _ _ _ _ _ _ _ space)),
     )
@@ -80,8 +79,7 @@ build_mascon_node-upper-requires t c =
     let h = c.halves-half in
     let tree = the_split (file.look c.args.file.now) c.args.set.g c.args.b h.result.low h.result.high c.sums_of-s.result c.requires.within c.sums_of-s.ensures.value k h.ensures.0 h.ensures.1 in
     let space = subst (λ (u : Tree). Space c.args.set.write c.args.out.now c.args.set.at c.args.node c.args.before c.args.set.frame u) tree c.requires.space in
-    let first = c.build_mascon_node-lower in
-    (
+    let first = c.build_mascon_node-lower in (
       subst (λ (q : Cells). cells q < t) (sym h.ensures.1) (subst (λ (v : ℕ). cells (upper (widest c.args.b) c.args.b) < v) c.decreases two.high.fewer),
       (c.requires.ready, (subst (λ (q : Cells). Within c.args.set.g q) (sym h.ensures.1) two.high.within, room_high _ _ _ _ _ _ _ _ _ _ space _ c.in-Fits.l first.auto.out (sym c.in-Fits.is ∙ first.ensures.judged))),
     )

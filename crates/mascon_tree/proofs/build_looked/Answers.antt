@@ -6,13 +6,11 @@ use mathlib.Core.List.{List}
 use native.Mathlib.Omega.{arith}
 use Rattle.rym1.specs.Bytes.{splice, words_bytes}
 use Rattle.rym1.proofs.Accepted.{accepted}
-use Rattle.rtm1.specs.Boxes.{whole}
 use Rattle.rtm1.specs.Tree.{Tree}
 use Rattle.mascon_tree.specs.Written.{Space}
 use Rattle.mascon_tree.proofs.Counted.{root_within, root_tree, root_few, root_short, root_large, root_small, root_nodes, root_ordered}
 use Rattle.mascon_tree.proofs.Written.{written_as}
 use Rattle.mascon_tree.proofs.Outcomes.{way_22, way_9, root_room, way_never, way_done}
-use borrow.Author.Rules.{rules}
 use Rattle.mascon_tree.proofs.build_looked.Goals as goal
 
 pub frame_of-frame-requires : goal.frame_of-frame-requires

@@ -1,8 +1,6 @@
 -- `mascon_tree::build_mascon_tree` meets its contract: each way out is its outcome's. Assumes nothing.
-use mathlib.Core.Path.{◌∙◌}
 use Rattle.rym1.proofs.Accepted.{accepted}
 use Rattle.mascon_tree.proofs.Outcomes.{way_refused, way_built}
-use borrow.Author.Rules.{rules}
 use Rattle.mascon_tree.proofs.build_mascon_tree.Goals as goal
 
 pub grid-requires : goal.grid-requires

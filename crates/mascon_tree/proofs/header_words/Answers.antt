@@ -2,7 +2,6 @@
 use mathlib.Core.List.{[], ◌∷◌}
 use Rattle.rym1.specs.File.{grid, count, density, volume, scale, box_min, box_max}
 use Rattle.rtm1.specs.Build.{header_words}
-use borrow.Author.Rules.{rules}
 use Rattle.mascon_tree.proofs.header_words.Goals as goal
 
 pub returns : goal.returns

@@ -4,7 +4,6 @@ use mathlib.Core.List.{[], ◌∷◌}
 use Rattle.rtm1.specs.Tree.{Tree}
 use Rattle.mascon_tree.specs.Written.{judged_of}
 use Rattle.mascon_tree.proofs.Counted.{root_within, root_tree, root_judged}
-use borrow.Author.Rules.{rules}
 use Rattle.mascon_tree.proofs.judge_tree.Goals as goal
 
 pub build_mascon_node-requires : goal.build_mascon_node-requires

@@ -1,6 +1,5 @@
 -- `mascon_tree::out_empty` meets its contract: one record. Assumes nothing.
 use Rattle.mascon_tree.proofs.Written.{rooted_with}
-use borrow.Author.Rules.{rules}
 use Rattle.mascon_tree.proofs.out_empty.Goals as goal
 
 pub returns : goal.returns

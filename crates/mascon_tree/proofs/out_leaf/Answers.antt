@@ -6,7 +6,6 @@ use Rattle.rtm1.specs.Visit.{visit}
 use Rattle.runs.proofs.Runs.{grid_few}
 use Rattle.rtm1.proofs.Boxes.{within_most}
 use Rattle.mascon_tree.proofs.Written.{node_low, node_room, leaf_short, leaf_room, leaf_large, leaf_fits, index_count, rooted_with}
-use borrow.Author.Rules.{rules}
 use Rattle.mascon_tree.proofs.out_leaf.Goals as goal
 
 pub overflow_add-next : goal.overflow_add-next

@@ -1,8 +1,6 @@
 -- `mascon_tree::out_record` meets its contract: `out_node` answers whether a float is too large. Assumes nothing.
 use native.Mathlib.Omega.{arith}
 use Rattle.mascon_tree.proofs.Written.{record_large, record_fits}
-use borrow.Author.Rules.{rules}
-use borrow.Author.Tests.{not-true, not-false}
 use Rattle.mascon_tree.proofs.out_record.Goals as goal
 
 pub out_node-requires : goal.out_node-requires

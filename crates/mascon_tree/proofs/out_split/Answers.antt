@@ -1,6 +1,5 @@
 -- `mascon_tree::out_split` meets its contract: one record, its links to the children. Assumes nothing.
 use Rattle.mascon_tree.proofs.Written.{rooted_with}
-use borrow.Author.Rules.{rules}
 use Rattle.mascon_tree.proofs.out_split.Goals as goal
 
 pub returns : goal.returns

@@ -1,7 +1,6 @@
 -- `model::good_triangle` meets its contract. Assumes nothing.
 use borrow.Author.Tests.{not-true, not-false}
 use Rattle.filling.specs.Lists.{good_triangle}
-use borrow.Author.Rules.{rules}
 use Rattle.model.proofs.good_triangle.Goals as goal
 
 pub returns-then-not-vector_up_to : goal.returns-then-not-vector_up_to

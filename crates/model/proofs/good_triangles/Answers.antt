@@ -1,9 +1,8 @@
 -- `model::good_triangles` meets its contract: the rest of the triangles decides as all do. Assumes nothing.
-use Prim.Native.Nat.{ℕ, ◌*◌, ◌-◌, ◌≤◌}
+use Prim.Native.Nat.{ℕ, ◌-◌}
 use mathlib.Core.Path.{◌≡◌, ap}
 use native.Mathlib.Nat.{sub-zero}
 use native.Mathlib.Omega.{arith}
-use borrow.Author.Rules.{rules}
 use borrow.Author.Tests.{not-true, not-false}
 use Rattle.filling.specs.Lists.{triangles_at, good_triangles}
 use Rattle.filling.proofs.Lists.{triangles_more}

@@ -1,7 +1,6 @@
 -- `model::mesh_wrong` meets its contract: each return rewrites the definition's tests by those that led there. Assumes nothing.
 use mathlib.Core.Path.{ap}
 use mathlib.Core.Bool.{not}
-use borrow.Author.Rules.{rules}
 use borrow.Author.Tests.{eq-eqb, ne_eqb, lt-ltb, le-ltb}
 use Rattle.filling.specs.Lists.{mesh, mesh_wrong}
 use Rattle.model.proofs.mesh_wrong.Goals as goal

@@ -1,6 +1,5 @@
 -- `model::triangle_at` meets its contract. Assumes nothing.
 use Rattle.filling.specs.Lists.{triangle}
-use borrow.Author.Rules.{rules}
 use Rattle.model.proofs.triangle_at.Goals as goal
 
 pub returns : goal.returns

@@ -2,7 +2,6 @@
 use mathlib.Core.Path.{ap}
 use lib.Ieee.{Float, le}
 use Rattle.filling.specs.Lists.{up_to}
-use borrow.Author.Rules.{rules}
 use Rattle.model.proofs.up_to.Goals as goal
 
 pub returns : goal.returns

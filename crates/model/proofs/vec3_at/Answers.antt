@@ -1,6 +1,5 @@
 -- `model::vec3_at` meets its contract. Assumes nothing.
 use Rattle.filling.specs.Lists.{vec3, float}
-use borrow.Author.Rules.{rules}
 use Rattle.model.proofs.vec3_at.Goals as goal
 
 pub returns : goal.returns

@@ -1,7 +1,6 @@
 -- `model::vector_up_to` meets its contract. Assumes nothing.
 use borrow.Author.Tests.{not-true, not-false}
 use Rattle.filling.specs.Lists.{vector_up_to}
-use borrow.Author.Rules.{rules}
 use Rattle.model.proofs.vector_up_to.Goals as goal
 
 pub returns-then-not-up_to : goal.returns-then-not-up_to

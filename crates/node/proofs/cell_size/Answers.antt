@@ -4,7 +4,6 @@ use lib.Ieee.{binary32, binary64, sub, div, of_bits}
 use Rattle.rym1.specs.File.{grid, box_max}
 use Rattle.float.specs.Number.{num}
 use Rattle.rtm1.specs.Node.{cell_size}
-use borrow.Author.Rules.{rules}
 use Rattle.node.proofs.cell_size.Goals as goal
 
 pub returns : goal.returns

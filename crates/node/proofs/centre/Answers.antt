@@ -6,7 +6,6 @@ use native.Mathlib.Omega.{arith}
 use lib.Ieee.{lt}
 use Rattle.float.specs.Number.{tiny, abs}
 use Rattle.rtm1.specs.Node.{over, fallback, centre}
-use borrow.Author.Rules.{rules}
 use Rattle.node.proofs.centre.Goals as goal
 
 pub returns-then-n-eq0 : goal.returns-then-n-eq0

@@ -1,7 +1,6 @@
 -- `node::centre_of` meets its contract. Assumes nothing.
 use mathlib.Core.List.{[], ◌∷◌}
 use Rattle.rtm1.specs.Node.{centre_of}
-use borrow.Author.Rules.{rules}
 use Rattle.node.proofs.centre_of.Goals as goal
 
 pub returns : goal.returns

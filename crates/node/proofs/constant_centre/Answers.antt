@@ -4,7 +4,6 @@ use mathlib.Core.Path.{◌≡◌, sym, ap, ◌∙◌}
 use native.Mathlib.Omega.{arith}
 use Rattle.float.specs.Number.{num}
 use Rattle.rtm1.specs.Node.{over, constant_centre}
-use borrow.Author.Rules.{rules}
 use Rattle.node.proofs.constant_centre.Goals as goal
 
 pub returns-then-n-eq0 : goal.returns-then-n-eq0

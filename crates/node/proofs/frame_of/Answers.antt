@@ -1,6 +1,5 @@
 -- `node::frame_of` meets its contract. Assumes nothing.
 use mathlib.Core.List.{[], ◌∷◌}
-use borrow.Author.Rules.{rules}
 use Rattle.node.proofs.frame_of.Goals as goal
 
 pub returns : goal.returns

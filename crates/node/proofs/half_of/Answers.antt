@@ -1,6 +1,5 @@
 -- `node::half_of` meets its contract. Assumes nothing.
 use Rattle.node.proofs.Floats.{half_is}
-use borrow.Author.Rules.{rules}
 use Rattle.node.proofs.half_of.Goals as goal
 
 pub returns : goal.returns

@@ -1,7 +1,6 @@
 -- `node::half_on` meets its contract. Assumes nothing.
 use mathlib.Core.Path.{refl}
 use Rattle.rtm1.specs.Node.{half_on}
-use borrow.Author.Rules.{rules}
 use Rattle.node.proofs.half_on.Goals as goal
 
 pub returns : goal.returns

@@ -3,7 +3,6 @@ use mathlib.Core.Path.{ap, ◌∙◌}
 use lib.Ieee.{binary32, of_bits}
 use Rattle.rym1.specs.File.{box_min}
 use Rattle.rtm1.specs.Node.{least}
-use borrow.Author.Rules.{rules}
 use Rattle.node.proofs.least.Goals as goal
 
 pub returns : goal.returns

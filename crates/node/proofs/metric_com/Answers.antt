@@ -1,7 +1,6 @@
 -- `node::metric_com` meets its contract. Assumes nothing.
 use mathlib.Core.List.{[], ◌∷◌}
 use Rattle.rtm1.specs.Node.{metric_com}
-use borrow.Author.Rules.{rules}
 use Rattle.node.proofs.metric_com.Goals as goal
 
 pub returns : goal.returns

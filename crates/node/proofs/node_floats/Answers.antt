@@ -2,7 +2,6 @@
 use mathlib.Core.Path.{ap, ◌∙◌}
 use Rattle.rtm1.specs.Node.{metric_com}
 use Rattle.node.proofs.Floats.{floats_are}
-use borrow.Author.Rules.{rules}
 use Rattle.node.proofs.node_floats.Goals as goal
 
 pub returns : goal.returns

@@ -1,7 +1,6 @@
 -- `node::node_words`: word by word. Assumes nothing.
 use mathlib.Core.Path.{refl}
 use Rattle.rtm1.specs.Node.{node_words}
-use borrow.Author.Rules.{rules}
 use Rattle.node.proofs.node_words.Goals as goal
 
 pub returns : goal.returns

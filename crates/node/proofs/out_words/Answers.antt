@@ -1,10 +1,10 @@
 -- `node::out_words` meets its contract: what is written is the words before the next one. Assumes nothing.
-use Prim.Native.Nat.{◌-◌, ◌≤◌, ◌+◌, ◌*◌}
-use mathlib.Core.Path.{◌≡◌, refl, sym, ap, ◌∙◌}
+use Prim.Native.Nat.{◌+◌, ◌*◌}
+use mathlib.Core.Path.{refl, sym, ap, ◌∙◌}
 use native.Mathlib.Omega.{arith}
 use mathlib.Core.List.{List}
 use Prim.Native.Nat.{ℕ}
-use lib.ListN.{length, take, get_or}
+use lib.ListN.{get_or}
 use lib.Seq.{take_all}
 use Rattle.rym1.specs.Bytes.{splice, words_bytes, le}
 use Rattle.rym1.proofs.Bytes.{splice_none, words_more}

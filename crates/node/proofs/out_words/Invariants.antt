@@ -1,13 +1,7 @@
-use Prim.Native.Nat.{◌-◌, ◌≤◌, ◌+◌, ◌*◌}
-use mathlib.Core.Path.{◌≡◌, refl, sym, ap, ◌∙◌}
-use native.Mathlib.Omega.{arith}
-use mathlib.Core.List.{List}
-use Prim.Native.Nat.{ℕ}
-use lib.ListN.{length, take, get_or}
-use lib.Seq.{take_all}
-use Rattle.rym1.specs.Bytes.{splice, words_bytes, le}
-use Rattle.rym1.proofs.Bytes.{splice_none, words_more}
-use borrow.Author.Rules.{rules}
+use Prim.Native.Nat.{◌-◌, ◌≤◌}
+use mathlib.Core.Path.{◌≡◌}
+use lib.ListN.{length, take}
+use Rattle.rym1.specs.Bytes.{splice, words_bytes}
 use Rattle.node.proofs.out_words.Given as goal
 
 abbrev pub invariant-loop-i : goal.invariant-loop-i

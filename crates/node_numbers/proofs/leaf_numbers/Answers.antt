@@ -1,6 +1,5 @@
 -- `node_numbers::leaf_numbers`: each number as it is written. Assumes nothing.
 use Rattle.rtm1.specs.Node.{leaf_numbers}
-use borrow.Author.Rules.{rules}
 use Rattle.node_numbers.proofs.leaf_numbers.Goals as goal
 
 pub returns : goal.returns

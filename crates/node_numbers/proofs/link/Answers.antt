@@ -1,8 +1,7 @@
 -- `node_numbers::link`: the test says which case holds. Assumes nothing.
 use mathlib.Core.Path.{sym, ap, ◌∙◌}
-use mathlib.Core.Bool.{Bool, cond}
+use mathlib.Core.Bool.{Bool}
 use Rattle.rtm1.specs.Node.{link}
-use borrow.Author.Rules.{rules}
 use Rattle.node_numbers.proofs.link.Goals as goal
 
 pub returns-then-occupied : goal.returns-then-occupied

@@ -5,7 +5,6 @@ use native.Mathlib.Omega.{arith}
 use Rattle.float.specs.Narrow.{is_large}
 use Rattle.float.proofs.Low.{whole_small}
 use Rattle.rtm1.specs.Node.{number_word}
-use borrow.Author.Rules.{rules}
 use Rattle.node_numbers.proofs.number_word.Goals as goal
 
 pub returns-in_default : goal.returns-in_default

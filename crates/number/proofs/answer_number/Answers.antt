@@ -1,7 +1,6 @@
 -- `number::answer_number` meets its contract, case by case. Assumes nothing.
 use mathlib.Core.Path.{sym, ap, ◌∙◌}
 use Rattle.rym1.specs.Causes.{told}
-use borrow.Author.Rules.{rules}
 use Rattle.number.proofs.answer_number.Goals as goal
 
 pub returns-in-Refused : goal.returns-in-Refused

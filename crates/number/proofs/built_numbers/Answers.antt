@@ -4,7 +4,6 @@ use Prim.Native.Nat.{ℕ}
 use Rattle.rtm1.specs.declared.Built.{Built}
 use Rattle.rtm1.specs.Build.{answer_of, nodes_of, order_of}
 use Rattle.number.specs.declared.MasconBuilt.{MasconBuilt}
-use borrow.Author.Rules.{rules}
 use Rattle.number.proofs.built_numbers.Goals as goal
 
 abbrev numbers : Built → MasconBuilt

@@ -1,7 +1,6 @@
 -- `number::cause_number` meets its contract, case by case. Assumes nothing.
 use mathlib.Core.Path.{sym, ap}
 use Rattle.rym1.specs.Causes.{number}
-use borrow.Author.Rules.{rules}
 use Rattle.number.proofs.cause_number.Goals as goal
 
 pub returns-in-Nothing : goal.returns-in-Nothing

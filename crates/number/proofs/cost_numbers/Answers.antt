@@ -3,7 +3,6 @@ use mathlib.Core.Path.{sym, ap, ◌∙◌}
 use Prim.Native.Nat.{ℕ}
 use Rattle.rym1.specs.Causes.{outcome}
 use Rattle.rtm1.specs.Costliest.{cost, told_cost}
-use borrow.Author.Rules.{rules}
 use Rattle.number.proofs.cost_numbers.Goals as goal
 
 pub returns-in-Refused : goal.returns-in-Refused

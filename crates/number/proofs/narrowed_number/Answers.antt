@@ -1,7 +1,6 @@
 -- `number::narrowed_number` meets its contract, case by case. Assumes nothing.
 use mathlib.Core.Path.{sym, ap, ◌∙◌}
 use Rattle.float.specs.Narrow.{narrow_number}
-use borrow.Author.Rules.{rules}
 use Rattle.number.proofs.narrowed_number.Goals as goal
 
 pub returns-in-Finite : goal.returns-in-Finite

@@ -1,7 +1,6 @@
 -- `number::side_number` meets its contract, case by case. Assumes nothing.
 use mathlib.Core.Path.{sym, ap, ◌∙◌}
 use Rattle.filling.specs.Inside.{side_number}
-use borrow.Author.Rules.{rules}
 use Rattle.number.proofs.side_number.Goals as goal
 
 pub returns-in-Refused : goal.returns-in-Refused

@@ -1,6 +1,5 @@
 -- `ray::ray_triangle_t` meets its contract: at each return the calls' results stand for the definition's parts, and the tests on the way decide whether it is a miss. Assumes nothing.
 use lib.Ieee.{lt, le}
-use borrow.Author.Rules.{rules}
 use borrow.Author.Tests.{not-true, not-false}
 use Rattle.float.specs.Number.{zero64, one64}
 use Rattle.filling.specs.Vector.{times, over}

@@ -1,6 +1,5 @@
 -- `row::answer` meets its contract. Assumes nothing.
 use mathlib.Core.Path.{sym, ap, ◌∙◌}
-use borrow.Author.Rules.{rules}
 use Rattle.filling.specs.Inside.{yes}
 use Rattle.row.proofs.answer.Goals as goal
 

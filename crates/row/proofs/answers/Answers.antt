@@ -1,7 +1,7 @@
 -- `row::answers` meets its contract: each region is sorted in its place, and those behind it stay. Assumes nothing.
 use borrow.Rule.Slice.PartMut.{mid_len, same_len_mid}
 use lib.Seq.{get_or-set_other}
-use Prim.Native.Nat.{ℕ, ◌≤◌, ◌<◌, ◌-◌, ◌+◌, ◌*◌}
+use Prim.Native.Nat.{◌≤◌, ◌<◌, ◌-◌, ◌+◌, ◌*◌}
 use mathlib.Core.Path.{◌≡◌, refl, ◌∙◌, ap}
 use mathlib.Core.List.{List}
 use lib.Ieee.{Float}

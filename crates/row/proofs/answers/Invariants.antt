@@ -1,15 +1,8 @@
-use borrow.Rule.Slice.PartMut.{mid_len, same_len_mid}
-use lib.Seq.{get_or-set_other}
-use Prim.Native.Nat.{ℕ, ◌≤◌, ◌<◌, ◌-◌, ◌+◌, ◌*◌}
-use mathlib.Core.Path.{◌≡◌, refl, ◌∙◌, ap}
-use mathlib.Core.List.{List}
-use lib.Ieee.{Float}
-use native.Mathlib.Omega.{arith}
-use lib.ListN.{length, get_or, length-set}
+use Prim.Native.Nat.{ℕ, ◌≤◌, ◌<◌, ◌-◌}
+use mathlib.Core.Path.{◌≡◌}
+use lib.ListN.{length, get_or}
 use Rattle.filling.specs.Inside.{odd_rest, yes}
 use Rattle.row.specs.Row.{region}
-use Rattle.row.proofs.Laws.{apart, region_kept, answer_step, region_lent}
-use borrow.Author.Rules.{rules}
 use Rattle.row.proofs.answers.Given as goal
 
 abbrev pub invariant-loop-q : goal.invariant-loop-q

@@ -1,13 +1,9 @@
-use Prim.Native.Nat.{ℕ, ◌≤◌, ◌<◌, ◌-◌, ◌+◌, ◌*◌}
-use mathlib.Core.Path.{◌≡◌, refl, ◌∙◌, ap}
-use mathlib.Core.List.{List, ◌++◌}
-use native.Mathlib.Omega.{arith}
-use lib.ListN.{length, get_or, set, length-set}
-use lib.Ieee.{Float}
-use borrow.Author.Rules.{rules}
+use Prim.Native.Nat.{ℕ, ◌≤◌, ◌<◌, ◌-◌, ◌+◌}
+use mathlib.Core.Path.{◌≡◌}
+use mathlib.Core.List.{◌++◌}
+use lib.ListN.{length, get_or}
 use Rattle.filling.specs.Inside.{listed}
-use Rattle.row.specs.Row.{stored, region, crossing_up_to}
-use Rattle.row.proofs.Laws.{own_fits, turn_done, turn_rest, stored_length, up_is}
+use Rattle.row.specs.Row.{region, crossing_up_to}
 use Rattle.row.proofs.at_points.Given as goal
 
 abbrev pub invariant-loop-q : goal.invariant-loop-q

@@ -1,7 +1,6 @@
 -- `row::crossing_up_to` meets its contract. Assumes nothing.
 use mathlib.Core.Path.{◌∙◌}
 use native.Mathlib.Omega.{arith}
-use borrow.Author.Rules.{rules}
 use Rattle.filling.specs.declared.Crossing.TheVariants.{Miss}
 use Rattle.filling.specs.Ray.{ray}
 use Rattle.row.proofs.Laws.{test_yes, test_no}

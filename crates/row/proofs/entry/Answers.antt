@@ -5,7 +5,6 @@ use mathlib.Core.List.{List, ◌++◌, append-nil}
 use native.Mathlib.Omega.{arith}
 use lib.ListN.{get_or}
 use lib.Ieee.{Float, nan}
-use borrow.Author.Rules.{rules}
 use Rattle.filling.specs.declared.Crossing.{Crossing}
 use Rattle.filling.specs.Inside.{listed}
 use Rattle.filling.specs.Rows.{triangle_of}

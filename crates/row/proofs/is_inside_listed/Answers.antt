@@ -1,7 +1,6 @@
 -- `row::is_inside_listed` meets its contract: a row of one point. Assumes nothing.
 use mathlib.Core.Path.{sym, ap, ◌∙◌}
 use native.Mathlib.Omega.{arith}
-use borrow.Author.Rules.{rules}
 use Rattle.filling.specs.declared.Vec3.{Vec3}
 use Rattle.filling.specs.Lists.{mesh}
 use Rattle.filling.specs.Inside.{yes, is_inside}

@@ -1,25 +1,23 @@
 -- `row::pass` meets its contract: each region has the crossings of the entries read. Assumes nothing.
-use Prim.Native.Nat.{ℕ, ◌≤◌, ◌<◌, ◌-◌}
+use Prim.Native.Nat.{◌<◌}
 use mathlib.Core.Path.{◌≡◌, refl, ◌∙◌, ap}
 use mathlib.Core.List.{List, ◌++◌}
 use lib.Ieee.{Float}
 use native.Mathlib.Omega.{arith}
-use lib.ListN.{length, get_or, take}
+use lib.ListN.{length, get_or}
 use Rattle.filling.specs.Inside.{listed}
-use Rattle.row.specs.Row.{region, crossing_at, crossings_at}
+use Rattle.row.specs.Row.{crossing_at}
 use Rattle.row.proofs.Laws.{at_none, at_more, at_all, region_none}
-use borrow.Author.Rules.{rules}
 use Rattle.row.proofs.pass.Goals as goal
 
 pub loop-t-init : goal.loop-t-init
-loop-t-init c =
-    (
-      omega arith,
-      refl,
-      refl,
-      λ q l. let z = c.requires.xs_in_bounds.3 q in
-          (omega arith, region_none c.args.fl.now c.args.counts.now (length c.args.list.now) q z ∙ at_none c.args.s.now c.args.b c.args.y c.args.z c.args.xs.now c.args.list.now q),
-    )
+loop-t-init c = (
+  omega arith,
+  refl,
+  refl,
+  λ q l. let z = c.requires.xs_in_bounds.3 q in
+      (omega arith, region_none c.args.fl.now c.args.counts.now (length c.args.list.now) q z ∙ at_none c.args.s.now c.args.b c.args.y c.args.z c.args.xs.now c.args.list.now q),
+)
 
 pub overflow_cast-i : goal.overflow_cast-i
 overflow_cast-i c = omega (arith, c.shared_slice_known-in-loop-t-1.given c.loop-t.t)
@@ -28,12 +26,15 @@ pub entry-requires : goal.entry-requires
 entry-requires c =
     let turn = c.loop-t in
     let low : turn.t < length c.args.list.now = omega arith in
-    let own = c.requires.by_index.0 turn.t low in record { i_in_bounds = (own.0, own.1, c.requires.by_index.1, c.requires.by_index.2); xs_in_bounds = (
+    let own = c.requires.by_index.0 turn.t low in record {
+      i_in_bounds = (own.0, own.1, c.requires.by_index.1, c.requires.by_index.2);
+      xs_in_bounds = (
         c.requires.xs_in_bounds.0,
         omega (arith, c.requires.xs_in_bounds.1, turn.invariant.2),
         omega (arith, c.requires.xs_in_bounds.2, turn.invariant.1),
         λ q l. let h = (turn.invariant.3 q l).0 in omega arith,
-      ) }
+      );
+    }
 
 pub loop-t-preserved : goal.loop-t-preserved
 loop-t-preserved c =

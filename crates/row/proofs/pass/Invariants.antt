@@ -1,13 +1,7 @@
 use Prim.Native.Nat.{ℕ, ◌≤◌, ◌<◌, ◌-◌}
-use mathlib.Core.Path.{◌≡◌, refl, ◌∙◌, ap}
-use mathlib.Core.List.{List, ◌++◌}
-use lib.Ieee.{Float}
-use native.Mathlib.Omega.{arith}
+use mathlib.Core.Path.{◌≡◌}
 use lib.ListN.{length, get_or, take}
-use Rattle.filling.specs.Inside.{listed}
-use Rattle.row.specs.Row.{region, crossing_at, crossings_at}
-use Rattle.row.proofs.Laws.{at_none, at_more, at_all, region_none}
-use borrow.Author.Rules.{rules}
+use Rattle.row.specs.Row.{region, crossings_at}
 use Rattle.row.proofs.pass.Given as goal
 
 abbrev pub invariant-loop-t : goal.invariant-loop-t

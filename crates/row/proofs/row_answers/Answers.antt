@@ -3,7 +3,6 @@ use Prim.Native.Nat.{ℕ}
 use mathlib.Core.Path.{ap, ◌∙◌}
 use mathlib.Core.List.{List}
 use native.Mathlib.Omega.{arith}
-use borrow.Author.Rules.{rules}
 use Rattle.filling.specs.Inside.{odd_rest, yes}
 use Rattle.row.specs.Row.{crossings_at}
 use Rattle.rows.proofs.Laws.{blank_length, zeros}

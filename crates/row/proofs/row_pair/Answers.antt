@@ -1,5 +1,4 @@
 -- `row::row_pair` meets its contract: the x of the point plays no part. Assumes nothing.
-use borrow.Author.Rules.{rules}
 use Rattle.filling.specs.Inside.{indices}
 use Rattle.filling.specs.Rows.{pair_of, row_pair}
 use Rattle.row.proofs.row_pair.Goals as goal

@@ -1,6 +1,5 @@
 -- `row::store` meets its contract. Assumes nothing.
 use Prim.Native.Nat.{◌+◌}
-use borrow.Author.Rules.{rules}
 use Rattle.row.proofs.Laws.{miss_stored, at_stored}
 use Rattle.row.proofs.store.Goals as goal
 

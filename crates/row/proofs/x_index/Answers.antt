@@ -2,7 +2,6 @@
 use Rattle.filling.specs.Inside.{indices}
 use Rattle.filling.specs.declared.Indices.{Indices}
 use mathlib.Core.Path.{ap}
-use borrow.Author.Rules.{rules}
 use Rattle.row.proofs.x_index.Goals as goal
 
 pub returns : goal.returns

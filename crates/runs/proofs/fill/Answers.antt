@@ -1,6 +1,6 @@
 -- `runs::fill` meets its contract: each form has its own; in working form there are as many cells as records. Assumes nothing.
 use Prim.Native.Nat.{◌≤◌}
-use mathlib.Core.Path.{◌≡◌, sym, ◌∙◌, subst}
+use mathlib.Core.Path.{sym, ◌∙◌, subst}
 use lib.ListN.{length}
 use Rattle.rym1.specs.File.{grid}
 use Rattle.rym1.proofs.Accepted.{accepted}
@@ -8,7 +8,6 @@ use Rattle.rym1.proofs.Opened.{working_count}
 use Rattle.runs.specs.declared.Form.{Form}
 use Rattle.runs.specs.Runs.{room_of, Held}
 use Rattle.runs.proofs.Runs.{marks_works}
-use borrow.Author.Rules.{rules}
 use Rattle.runs.proofs.fill.Goals as goal
 
 pub fill_marks-requires : goal.fill_marks-requires

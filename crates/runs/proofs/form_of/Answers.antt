@@ -2,7 +2,6 @@
 use native.Mathlib.Omega.{arith}
 use Rattle.points.proofs.Refused.{none_found, some_found}
 use Rattle.runs.proofs.Runs.{form_marks, form_words}
-use borrow.Author.Rules.{rules}
 use Rattle.runs.proofs.form_of.Goals as goal
 
 pub returns-then-is_refused : goal.returns-then-is_refused

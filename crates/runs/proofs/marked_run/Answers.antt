@@ -5,7 +5,6 @@ use Rattle.rym1.specs.File.{grid, cube, groups}
 use Rattle.rym1.proofs.Accepted.{accepted}
 use Rattle.rym1.proofs.Cells.{cube_few}
 use Rattle.runs.proofs.Runs.{row_fits, miss_is, marked_row, marked_none}
-use borrow.Author.Rules.{rules}
 use Rattle.runs.proofs.marked_run.Goals as goal
 
 pub cell_number-c-requires : goal.cell_number-c-requires

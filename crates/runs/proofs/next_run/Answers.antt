@@ -1,8 +1,5 @@
 -- `runs::next_run` meets its contract: each form has its own run. Assumes nothing.
-use mathlib.Core.Path.{◌≡◌, sym, ap, subst}
-use mathlib.Core.List.{List}
-use Prim.Native.Nat.{ℕ}
-use borrow.Author.Rules.{rules}
+use mathlib.Core.Path.{subst}
 use Rattle.runs.specs.declared.Form.{Form}
 use Rattle.runs.specs.Runs.{Ready}
 use Rattle.runs.proofs.next_run.Goals as goal

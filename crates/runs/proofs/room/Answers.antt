@@ -2,7 +2,6 @@
 use mathlib.Core.Path.{sym, ap, ◌∙◌}
 use Rattle.runs.specs.declared.Form.{Form}
 use Rattle.runs.specs.Runs.{room_of}
-use borrow.Author.Rules.{rules}
 use Rattle.runs.proofs.room.Goals as goal
 
 pub returns-in-Marks : goal.returns-in-Marks

@@ -1,13 +1,12 @@
 -- `runs::worded_run` meets its contract. Assumes nothing.
-use Prim.Native.Nat.{ℕ, ◌+◌, ◌-◌, ◌≤◌, ◌<◌}
+use Prim.Native.Nat.{ℕ}
 use native.Mathlib.Omega.{arith}
-use Rattle.rym1.specs.File.{grid, cube, cell}
+use Rattle.rym1.specs.File.{cube}
 use Rattle.rym1.proofs.Accepted.{accepted}
 use Rattle.rym1.specs.Cells.{look}
 use Rattle.lookup.specs.Lookup.{slot_word}
-use mathlib.Core.Path.{◌≡◌, sym, ap, ◌∙◌}
+use mathlib.Core.Path.{ap, ◌∙◌}
 use Rattle.runs.proofs.Runs.{worded_none, worded_one}
-use borrow.Author.Rules.{rules}
 use Rattle.runs.proofs.worded_run.Goals as goal
 
 pub cell_number-requires : goal.cell_number-requires

@@ -1,6 +1,6 @@
 -- `search::next` meets its contract: no mark is found before the word that is read, and the words so far are those touched. Assumes nothing.
-use Prim.Native.Nat.{◌-◌, ◌*◌, ◌/◌, ◌%◌, ◌^◌}
-use mathlib.Core.Path.{◌≡◌, refl}
+use Prim.Native.Nat.{◌/◌, ◌^◌}
+use mathlib.Core.Path.{refl}
 use native.Mathlib.Omega.{arith}
 use lib.ListN.{get_or}
 use lib.Count.{leading_le, trailing_le}
@@ -8,8 +8,7 @@ use Rattle.marks.proofs.Index.{group_of}
 use Rattle.search.specs.Next.{bit_at}
 use Rattle.search.specs.Answers.{found, read}
 use Rattle.search.proofs.Least.{touched_few}
-use Rattle.search.proofs.Reading.{Searching, search_start, search_hit, search_out, search_on, search_end, none_in_word, first_in_word}
-use borrow.Author.Rules.{rules}
+use Rattle.search.proofs.Reading.{search_start, search_hit, search_out, search_on, search_end, none_in_word, first_in_word}
 use Rattle.search.proofs.next.Goals as goal
 
 pub loop-c-init : goal.loop-c-init

@@ -6,7 +6,6 @@ use Rattle.rym1.proofs.Accepted.{accepted}
 use Rattle.points.proofs.Refused.{refused, none_found}
 use Rattle.runs.specs.Runs.{room_of}
 use Rattle.source.proofs.Ways.{way_file, way_8, way_21, way_read}
-use borrow.Author.Rules.{rules}
 use Rattle.source.proofs.read_source.Goals as goal
 
 pub returns-then-is_refused : goal.returns-then-is_refused

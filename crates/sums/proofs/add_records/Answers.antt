@@ -1,8 +1,8 @@
 -- `sums::add_records` meets its contract: the sums so far, with the records to come, are all of them. Assumes nothing.
-use Prim.Native.Nat.{◌+◌, ◌-◌, ◌*◌, ◌≤◌}
-use mathlib.Core.Path.{◌≡◌, refl}
+use Prim.Native.Nat.{◌+◌}
+use mathlib.Core.Path.{refl}
 use native.Mathlib.Omega.{arith}
-use Rattle.sums.proofs.Added.{Adding, adding_start, record_there, masses_finite_law, adding_turn, adding_end}
+use Rattle.sums.proofs.Added.{adding_start, record_there, masses_finite_law, adding_turn, adding_end}
 use borrow.Author.Rules.{rules}
 use Rattle.sums.proofs.add_records.Goals as goal
 

@@ -1,8 +1,5 @@
-use Prim.Native.Nat.{◌+◌, ◌-◌, ◌*◌, ◌≤◌}
-use mathlib.Core.Path.{◌≡◌, refl}
-use native.Mathlib.Omega.{arith}
-use Rattle.sums.proofs.Added.{Adding, adding_start, record_there, masses_finite_law, adding_turn, adding_end}
-use borrow.Author.Rules.{rules}
+use Prim.Native.Nat.{◌-◌, ◌≤◌}
+use Rattle.sums.proofs.Added.{Adding}
 use Rattle.sums.proofs.add_records.Given as goal
 
 abbrev pub invariant-loop-index : goal.invariant-loop-index

@@ -3,7 +3,6 @@ use mathlib.Core.Path.{refl, sym, ap, ◌∙◌}
 use mathlib.Core.Bool.{false}
 use lib.Ieee.{binary32, of_bits, nan_bits}
 use Rattle.float.proofs.Finite.{may_read, may_widen}
-use borrow.Author.Rules.{rules}
 use Rattle.sums.proofs.mass_at.Goals as goal
 
 pub u32_at-requires : goal.u32_at-requires

@@ -1,15 +1,8 @@
 use Prim.Native.Nat.{◌+◌, ◌-◌, ◌*◌, ◌≤◌}
-use mathlib.Core.Path.{◌≡◌, refl, ap, ◌∙◌}
-use native.Mathlib.Nat.{zero-add}
-use native.Mathlib.Omega.{arith}
-use borrow.Author.Rules.{rules}
+use mathlib.Core.Path.{◌≡◌}
 use Rattle.rym1.specs.Cells.{look}
-use Rattle.rtm1.specs.declared.Sums.{Sums}
-use Rattle.rtm1.specs.Visit.{nothing, plane, visit}
-use Rattle.rtm1.specs.Tree.{sums_of}
-use Rattle.rtm1.proofs.Visit.{total_count}
-use Rattle.sums.proofs.Turns.{Rest, sums_turn, sums_end}
-use Rattle.runs.proofs.Runs.{grid_few}
+use Rattle.rtm1.specs.Visit.{plane}
+use Rattle.sums.proofs.Turns.{Rest}
 use Rattle.sums.proofs.sums_of.Given as goal
 
 abbrev pub invariant-loop-z : goal.invariant-loop-z

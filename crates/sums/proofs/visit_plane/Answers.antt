@@ -1,10 +1,9 @@
 -- `sums::visit_plane` meets its contract: as `visit_row`, a row a turn. Assumes nothing.
-use Prim.Native.Nat.{◌+◌, ◌-◌, ◌*◌, ◌≤◌}
-use mathlib.Core.Path.{◌≡◌, refl}
+use mathlib.Core.Path.{refl}
 use native.Mathlib.Omega.{arith}
 use Rattle.rym1.specs.Cells.{look}
 use Rattle.rtm1.specs.Visit.{row}
-use Rattle.sums.proofs.Turns.{Rest, sums_turn, sums_end}
+use Rattle.sums.proofs.Turns.{sums_turn, sums_end}
 use Rattle.runs.proofs.Runs.{grid_few}
 use Rattle.sums.proofs.visit_plane.Goals as goal
 

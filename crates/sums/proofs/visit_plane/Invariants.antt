@@ -1,10 +1,8 @@
 use Prim.Native.Nat.{◌+◌, ◌-◌, ◌*◌, ◌≤◌}
-use mathlib.Core.Path.{◌≡◌, refl}
-use native.Mathlib.Omega.{arith}
+use mathlib.Core.Path.{◌≡◌}
 use Rattle.rym1.specs.Cells.{look}
 use Rattle.rtm1.specs.Visit.{row}
-use Rattle.sums.proofs.Turns.{Rest, sums_turn, sums_end}
-use Rattle.runs.proofs.Runs.{grid_few}
+use Rattle.sums.proofs.Turns.{Rest}
 use Rattle.sums.proofs.visit_plane.Given as goal
 
 abbrev pub invariant-loop-y : goal.invariant-loop-y

@@ -1,15 +1,14 @@
 -- `sums::visit_row` meets its contract: the sums so far, with what the rest of the row adds, are those of the whole row. Assumes nothing.
-use Prim.Native.Nat.{◌+◌, ◌-◌, ◌≤◌}
-use mathlib.Core.Path.{◌≡◌, refl, ap, ◌∙◌}
+use Prim.Native.Nat.{◌-◌}
+use mathlib.Core.Path.{refl, ap, ◌∙◌}
 use native.Mathlib.Omega.{arith}
-use lib.ListN.{length}
 use Rattle.rym1.specs.Cells.{look}
 use Rattle.rtm1.specs.declared.Sums.{Sums}
 use Rattle.rtm1.specs.Visit.{point_in, row}
 use Rattle.rtm1.proofs.Visit.{run_few, total_count}
 use Rattle.runs.specs.Runs.{placed}
 use Rattle.runs.proofs.Runs.{grid_few, length_placed}
-use Rattle.sums.proofs.Turns.{Rest, length_on, sums_on, sums_left, sums_end}
+use Rattle.sums.proofs.Turns.{length_on, sums_on, sums_left, sums_end}
 use Rattle.sums.proofs.visit_row.Goals as goal
 
 pub loop-x-init : goal.loop-x-init

@@ -1,14 +1,8 @@
-use Prim.Native.Nat.{◌+◌, ◌-◌, ◌≤◌}
-use mathlib.Core.Path.{◌≡◌, refl, ap, ◌∙◌}
-use native.Mathlib.Omega.{arith}
-use lib.ListN.{length}
+use Prim.Native.Nat.{◌-◌, ◌≤◌}
+use mathlib.Core.Path.{◌≡◌}
 use Rattle.rym1.specs.Cells.{look}
-use Rattle.rtm1.specs.declared.Sums.{Sums}
-use Rattle.rtm1.specs.Visit.{point_in, row}
-use Rattle.rtm1.proofs.Visit.{run_few, total_count}
-use Rattle.runs.specs.Runs.{placed}
-use Rattle.runs.proofs.Runs.{grid_few, length_placed}
-use Rattle.sums.proofs.Turns.{Rest, length_on, sums_on, sums_left, sums_end}
+use Rattle.rtm1.specs.Visit.{point_in}
+use Rattle.sums.proofs.Turns.{Rest}
 use Rattle.sums.proofs.visit_row.Given as goal
 
 abbrev pub invariant-loop-x : goal.invariant-loop-x

@@ -1,5 +1,4 @@
 -- `sums::with_point` meets its contract: each field by what `moment` and `shift` ensure. Assumes nothing.
-use borrow.Author.Rules.{rules}
 use Rattle.sums.proofs.Added.{with_moments}
 use Rattle.sums.proofs.with_point.Goals as goal
 

@@ -1,5 +1,4 @@
 -- `visit::mass_at` meets its contract. Assumes nothing.
-use borrow.Author.Rules.{rules}
 use Rattle.visit.proofs.mass_at.Goals as goal
 
 pub returns : goal.returns

@@ -1,7 +1,6 @@
 -- `visit::out_masses` meets its contract: the words are those of both masses, or one is too large. Assumes nothing.
 use mathlib.Core.Path.{refl, ◌∙◌}
 use Rattle.binary.proofs.Words.{word_large, word_small}
-use borrow.Author.Rules.{rules}
 use Rattle.visit.proofs.out_masses.Goals as goal
 
 pub returns-in_default : goal.returns-in_default

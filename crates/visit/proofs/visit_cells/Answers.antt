@@ -1,20 +1,17 @@
 -- `visit::visit_cells` meets its contract: the finds and the records are those of the cells passed. A turn is one law (`visit_past`, `visit_added`).
 -- Assumes nothing.
-use Prim.Native.Nat.{◌-◌, ◌*◌, ◌≤◌, ◌<◌}
+use Prim.Native.Nat.{◌*◌, ◌≤◌, ◌<◌}
 use mathlib.Core.Path.{◌≡◌, refl, ◌∙◌}
 use mathlib.Core.Bool.{true, false}
 use native.Mathlib.Nat.{mul-le-mul}
 use native.Mathlib.Omega.{arith}
-use lib.ListN.{length}
-use borrow.Author.Rules.{rules}
-use borrow.Author.Tests.{not-true, not-false}
 use Rattle.rym1.specs.File.{cube}
 use Rattle.rym1.proofs.Cells.{cube_few}
 use Rattle.filling.specs.Lists.{mesh, kernels}
 use Rattle.filling.specs.Inside.{test_box, is_inside}
 use Rattle.filling.specs.Frame as def
 use Rattle.filling.specs.Fill.{capacity}
-use Rattle.visit.proofs.Visiting.{Visited-so-far, visit_start, visit_past, visit_room, visit_added, visit_end, visit_full, capacity_few}
+use Rattle.visit.proofs.Visiting.{visit_start, visit_past, visit_room, visit_added, visit_end, visit_full, capacity_few}
 use Rattle.visit.proofs.visit_cells.Goals as goal
 
 pub overflow_mul-cells : goal.overflow_mul-cells

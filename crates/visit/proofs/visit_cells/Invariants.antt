@@ -1,18 +1,8 @@
-use Prim.Native.Nat.{◌-◌, ◌*◌, ◌≤◌, ◌<◌}
-use mathlib.Core.Path.{◌≡◌, refl, ◌∙◌}
-use mathlib.Core.Bool.{true, false}
-use native.Mathlib.Nat.{mul-le-mul}
-use native.Mathlib.Omega.{arith}
+use Prim.Native.Nat.{◌-◌, ◌≤◌}
+use mathlib.Core.Path.{◌≡◌}
 use lib.ListN.{length}
-use borrow.Author.Rules.{rules}
-use borrow.Author.Tests.{not-true, not-false}
-use Rattle.rym1.specs.File.{cube}
-use Rattle.rym1.proofs.Cells.{cube_few}
 use Rattle.filling.specs.Lists.{mesh, kernels}
-use Rattle.filling.specs.Inside.{test_box, is_inside}
-use Rattle.filling.specs.Frame as def
-use Rattle.filling.specs.Fill.{capacity}
-use Rattle.visit.proofs.Visiting.{Visited-so-far, visit_start, visit_past, visit_room, visit_added, visit_end, visit_full, capacity_few}
+use Rattle.visit.proofs.Visiting.{Visited-so-far}
 use Rattle.visit.proofs.visit_cells.Given as goal
 
 abbrev pub invariant-loop-c : goal.invariant-loop-c

@@ -6,7 +6,6 @@ use lib.Ieee.Bits.{of_bits-to_bits}
 use Rattle.float.specs.Axis.{axis_index}
 use Rattle.float.proofs.Kit.{equals_itself}
 use Rattle.float.proofs.WholePart.{none_at_nan}
-use borrow.Author.Rules.{rules}
 use Rattle.float.proofs.axis.axis_index.Goals as goal
 
 pub returns-then-v : goal.returns-then-v

@@ -2,7 +2,6 @@
 use native.Mathlib.Omega.{arith}
 use lib.Bits.{mask_lt}
 use Rattle.float.proofs.WholePart.{none_above, none_below, top_above, under_top, at_top}
-use borrow.Author.Rules.{rules}
 use Rattle.float.proofs.axis.axis_index_bits.Goals as goal
 
 pub returns-then-b-ge9218868437227405313 : goal.returns-then-b-ge9218868437227405313

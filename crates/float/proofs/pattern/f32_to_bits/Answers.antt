@@ -1,5 +1,4 @@
 -- `float::pattern::f32_to_bits` meets its contract: `x != x` holds of a NaN alone, and off a NaN the bits may be read. Assumes nothing.
-use borrow.Author.Rules.{rules}
 use mathlib.Core.Path.{◌≡◌, refl, sym, ap, ◌∙◌}
 use lib.Ieee.{nan, binary32, to_bits}
 use Rattle.float.proofs.Kit.{equals_itself, is_nan_law}

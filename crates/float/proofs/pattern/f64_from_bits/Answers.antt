@@ -2,7 +2,6 @@
 use mathlib.Core.Path.{◌∙◌}
 use lib.Ieee.{binary64}
 use Rattle.float.proofs.Finite.{no_number, reads_nan, may_read}
-use borrow.Author.Rules.{rules}
 use Rattle.float.proofs.pattern.f64_from_bits.Goals as goal
 
 pub returns-then-is_nan64 : goal.returns-then-is_nan64

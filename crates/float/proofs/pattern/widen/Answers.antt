@@ -2,7 +2,6 @@
 use mathlib.Core.Path.{◌∙◌}
 use lib.Ieee.{binary32, binary64}
 use Rattle.float.proofs.Finite.{no_number, reads_nan, may_read, may_widen}
-use borrow.Author.Rules.{rules}
 use Rattle.float.proofs.pattern.widen.Goals as goal
 
 pub returns-then-is_nan32 : goal.returns-then-is_nan32

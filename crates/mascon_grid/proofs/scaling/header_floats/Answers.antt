@@ -1,7 +1,6 @@
 -- `mascon_grid::scaling::header_floats` meets its contract. Assumes nothing.
 use mathlib.Core.Path.{refl}
 use Rattle.mascon_grid.specs.Scaled.{header_floats}
-use borrow.Author.Rules.{rules}
 use Rattle.mascon_grid.proofs.scaling.header_floats.Goals as goal
 
 pub returns : goal.returns

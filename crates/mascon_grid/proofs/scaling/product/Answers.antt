@@ -1,6 +1,5 @@
 -- `mascon_grid::scaling::product` meets its contract. Assumes nothing.
 use Rattle.filling.specs.Fill.{product}
-use borrow.Author.Rules.{rules}
 use Rattle.mascon_grid.proofs.scaling.product.Goals as goal
 
 pub returns : goal.returns

@@ -1,13 +1,10 @@
 -- `mascon_grid::scaling::scale_masses` meets its contract: the records that are left decide, and once scaled make the whole of it. Assumes nothing.
-use Prim.Native.Nat.{◌-◌, ◌≤◌}
-use mathlib.Core.Path.{◌≡◌, refl, sym, ap, ◌∙◌}
+use mathlib.Core.Path.{refl, sym, ap, ◌∙◌}
 use mathlib.Core.Bool.{true≢false}
 use native.Mathlib.Omega.{arith}
-use lib.ListN.{length}
-use borrow.Author.Rules.{rules}
 use borrow.Author.Tests.{not-true, not-false}
 use Rattle.mascon_grid.specs.Scaled.{scaled_point}
-use Rattle.mascon_grid.proofs.ScalingLoops.{Scaling, scaling_start, scaling_stop, scaling_turn, scaling_end}
+use Rattle.mascon_grid.proofs.ScalingLoops.{scaling_start, scaling_stop, scaling_turn, scaling_end}
 use Rattle.mascon_grid.proofs.scaling.scale_masses.Goals as goal
 
 pub loop-i-init : goal.loop-i-init

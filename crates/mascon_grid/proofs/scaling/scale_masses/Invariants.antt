@@ -1,12 +1,7 @@
 use Prim.Native.Nat.{◌-◌, ◌≤◌}
-use mathlib.Core.Path.{◌≡◌, refl, sym, ap, ◌∙◌}
-use mathlib.Core.Bool.{true≢false}
-use native.Mathlib.Omega.{arith}
+use mathlib.Core.Path.{◌≡◌}
 use lib.ListN.{length}
-use borrow.Author.Rules.{rules}
-use borrow.Author.Tests.{not-true, not-false}
-use Rattle.mascon_grid.specs.Scaled.{scaled_point}
-use Rattle.mascon_grid.proofs.ScalingLoops.{Scaling, scaling_start, scaling_stop, scaling_turn, scaling_end}
+use Rattle.mascon_grid.proofs.ScalingLoops.{Scaling}
 use Rattle.mascon_grid.proofs.scaling.scale_masses.Given as goal
 
 abbrev pub invariant-loop-i : goal.invariant-loop-i

@@ -3,7 +3,6 @@ use lib.Ieee.{lt}
 use borrow.Author.Tests.{not-true, not-false}
 use Rattle.float.specs.Number.{zero64}
 use Rattle.filling.specs.Fill.{scale_of}
-use borrow.Author.Rules.{rules}
 use Rattle.mascon_grid.proofs.scaling.scale_of.Goals as goal
 
 pub returns-then-not-target : goal.returns-then-not-target

@@ -1,6 +1,5 @@
 -- `mascon_grid::scaling::scaled_point` meets its contract. Assumes nothing.
 use Rattle.mascon_grid.specs.Scaled.{scaled_point}
-use borrow.Author.Rules.{rules}
 use Rattle.mascon_grid.proofs.scaling.scaled_point.Goals as goal
 
 pub returns : goal.returns

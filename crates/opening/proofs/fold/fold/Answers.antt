@@ -1,10 +1,8 @@
 -- `opening::fold::fold` meets its contract: each way out is its outcome's. Assumes nothing.
-use native.Mathlib.Omega.{arith}
 use Rattle.rym1.specs.File.{size}
 use Rattle.points.proofs.Refused.{none_found}
 use Rattle.lookup.proofs.Reading.{read_passed}
 use Rattle.opening.proofs.Outcomes.{fold_early, fold_9, fold_done}
-use borrow.Author.Rules.{rules}
 use Rattle.opening.proofs.fold.fold.Goals as goal
 
 pub returns-then-is_refused : goal.returns-then-is_refused

@@ -1,6 +1,5 @@
 -- `points::judge::are_finite` meets its contract: each way out rewrites with the tests that led there. Assumes nothing.
 use mathlib.Core.Path.{ap, ◌∙◌}
-use borrow.Author.Rules.{rules}
 use Rattle.rym1.specs.File.{finite}
 use Rattle.points.proofs.Refused.{tested}
 use Rattle.points.proofs.judge.are_finite.Goals as goal

@@ -1,6 +1,5 @@
 -- `points::judge::has_box` meets its contract: each way out rewrites with the tests that led there. Assumes nothing.
 use mathlib.Core.Path.{sym, ◌∙◌}
-use borrow.Author.Rules.{rules}
 use Rattle.points.proofs.judge.has_box.Goals as goal
 
 pub returns-then-is_below-2 : goal.returns-then-is_below-2

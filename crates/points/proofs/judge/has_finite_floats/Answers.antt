@@ -1,6 +1,5 @@
 -- `points::judge::has_finite_floats` meets its contract: the nine floats are three times three. Assumes nothing.
 use mathlib.Core.Path.{sym, ◌∙◌}
-use borrow.Author.Rules.{rules}
 use Rattle.points.proofs.Refused.{nine_floats}
 use Rattle.points.proofs.judge.has_finite_floats.Goals as goal
 

@@ -4,7 +4,6 @@ use mathlib.Core.Path.{sym, ◌∙◌}
 use native.Mathlib.Omega.{arith}
 use lib.ListN.{length}
 use borrow.Author.Tests.{lt-ltb, le-ltb, eq-eqb, ne_eqb}
-use borrow.Author.Rules.{rules}
 use Rattle.rym1.specs.Causes.{number, when, first}
 use Rattle.rym1.specs.File.{size, below, header_cause}
 use Rattle.rym1.proofs.Causes.{first_found}

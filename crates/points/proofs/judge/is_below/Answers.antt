@@ -1,7 +1,6 @@
 -- `points::judge::is_below` meets its contract: the comparison of the two patterns' floats. Assumes nothing.
 use mathlib.Core.Path.{◌∙◌, ap}
 use lib.Ieee.{binary32, of_bits, lt}
-use borrow.Author.Rules.{rules}
 use Rattle.rym1.specs.File.{below, box_min, box_max}
 use Rattle.points.proofs.judge.is_below.Goals as goal
 

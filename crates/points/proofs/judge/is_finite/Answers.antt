@@ -1,7 +1,6 @@
 -- `points::judge::is_finite` meets its contract: a u32 has at most 32 bits. Assumes nothing.
 use native.Mathlib.Omega.{arith}
 use borrow.Author.Tests.{lt-ltb}
-use borrow.Author.Rules.{rules}
 use Rattle.rym1.specs.File.{finite}
 use Rattle.points.proofs.judge.is_finite.Goals as goal
 

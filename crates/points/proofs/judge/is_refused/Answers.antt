@@ -1,6 +1,5 @@
 -- `points::judge::is_refused` meets its contract: only the first case has the number 0. Assumes nothing.
 use mathlib.Core.Path.{sym}
-use borrow.Author.Rules.{rules}
 use Rattle.rym1.specs.Causes.{number}
 use Rattle.points.proofs.Refused.{not_first}
 use Rattle.points.proofs.judge.is_refused.Goals as goal

@@ -1,8 +1,8 @@
 -- `points::judge::is_working` meets its contract: the form of all records is that of the records left, from `low` on. Assumes nothing.
-use Prim.Native.Nat.{◌+◌, ◌*◌, ◌-◌, ◌≤◌}
-use mathlib.Core.Path.{◌≡◌, refl, sym, ◌∙◌}
+use Prim.Native.Nat.{◌-◌}
+use mathlib.Core.Path.{refl, sym, ◌∙◌}
 use native.Mathlib.Omega.{arith}
-use Rattle.rym1.specs.File.{points_at, size, cell_of, working}
+use Rattle.rym1.specs.File.{size, cell_of}
 use Rattle.rym1.proofs.Accepted.{inside_at}
 use Rattle.rym1.proofs.Cells.{cube_few}
 use Rattle.points.proofs.Turns.{work_low, work_pad, work_go, work_end}

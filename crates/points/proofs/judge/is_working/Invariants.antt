@@ -1,10 +1,6 @@
-use Prim.Native.Nat.{◌+◌, ◌*◌, ◌-◌, ◌≤◌}
-use mathlib.Core.Path.{◌≡◌, refl, sym, ◌∙◌}
-use native.Mathlib.Omega.{arith}
-use Rattle.rym1.specs.File.{points_at, size, cell_of, working}
-use Rattle.rym1.proofs.Accepted.{inside_at}
-use Rattle.rym1.proofs.Cells.{cube_few}
-use Rattle.points.proofs.Turns.{work_low, work_pad, work_go, work_end}
+use Prim.Native.Nat.{◌+◌, ◌*◌, ◌≤◌}
+use mathlib.Core.Path.{◌≡◌}
+use Rattle.rym1.specs.File.{points_at, working}
 use Rattle.points.proofs.judge.is_working.Given as goal
 
 abbrev pub invariant-loop-left : goal.invariant-loop-left

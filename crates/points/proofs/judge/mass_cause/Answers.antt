@@ -1,7 +1,6 @@
 -- `points::judge::mass_cause` meets its contract: each way out rewrites with the tests that led there. Assumes nothing.
 use mathlib.Core.Path.{◌≡◌, sym, ◌∙◌}
 use mathlib.Core.Bool.{true, false}
-use borrow.Author.Rules.{rules}
 use Rattle.rym1.specs.Causes.{number, when}
 use Rattle.rym1.specs.File.{finite, mass_cause}
 use Rattle.points.proofs.judge.mass_cause.Goals as goal

@@ -1,8 +1,7 @@
 -- `points::judge::parse_mascon_bytes` meets its contract: the header's cause if there is one, else that of the records. Assumes nothing.
 use mathlib.Core.Path.{sym, ◌∙◌}
-use borrow.Author.Rules.{rules}
 use Rattle.rym1.specs.Causes.{number, first}
-use Rattle.rym1.specs.File.{grid, count, points, points_cause, file_cause}
+use Rattle.rym1.specs.File.{grid, points, points_cause, file_cause}
 use Rattle.rym1.proofs.Causes.{first_found}
 use Rattle.points.proofs.Refused.{refused, not_refused}
 use Rattle.rym1.proofs.Accepted.{accepted_header}

@@ -1,6 +1,5 @@
 -- `points::judge::point_cause` meets its contract: the place's cause if there is one, else that of the masses. Assumes nothing.
 use mathlib.Core.Path.{refl, sym}
-use borrow.Author.Rules.{rules}
 use Rattle.rym1.specs.Causes.{number}
 use Rattle.rym1.specs.File.{mass_cause, point_cause}
 use Rattle.rym1.proofs.Causes.{first_found, first_none}

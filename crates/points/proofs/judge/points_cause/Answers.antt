@@ -1,9 +1,8 @@
 -- `points::judge::points_cause` meets its contract: the invariant: the cause of all records is that of the records left. Assumes nothing.
-use Prim.Native.Nat.{◌+◌, ◌*◌}
-use mathlib.Core.Path.{◌≡◌, refl, sym, ◌∙◌}
+use mathlib.Core.Path.{refl, sym, ◌∙◌}
 use native.Mathlib.Omega.{arith}
 use Rattle.rym1.specs.Causes.{number}
-use Rattle.rym1.specs.File.{points_at, size, points_cause}
+use Rattle.rym1.specs.File.{size}
 use Rattle.points.proofs.Refused.{refused, not_refused}
 use Rattle.points.proofs.Turns.{cause_stop, cause_go, cause_end}
 use Rattle.points.proofs.judge.points_cause.Goals as goal

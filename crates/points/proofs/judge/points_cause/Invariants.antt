@@ -1,10 +1,6 @@
 use Prim.Native.Nat.{◌+◌, ◌*◌}
-use mathlib.Core.Path.{◌≡◌, refl, sym, ◌∙◌}
-use native.Mathlib.Omega.{arith}
-use Rattle.rym1.specs.Causes.{number}
-use Rattle.rym1.specs.File.{points_at, size, points_cause}
-use Rattle.points.proofs.Refused.{refused, not_refused}
-use Rattle.points.proofs.Turns.{cause_stop, cause_go, cause_end}
+use mathlib.Core.Path.{◌≡◌}
+use Rattle.rym1.specs.File.{points_at, points_cause}
 use Rattle.points.proofs.judge.points_cause.Given as goal
 
 abbrev pub invariant-loop-left : goal.invariant-loop-left

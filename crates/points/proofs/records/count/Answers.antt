@@ -1,5 +1,4 @@
 -- `points::records::count` meets its contract: the word at byte 12. Assumes nothing.
-use borrow.Author.Rules.{rules}
 use Rattle.rym1.specs.File.{count}
 use Rattle.points.proofs.records.count.Goals as goal
 

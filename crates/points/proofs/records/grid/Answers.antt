@@ -1,5 +1,4 @@
 -- `points::records::grid` meets its contract: the word at byte 8. Assumes nothing.
-use borrow.Author.Rules.{rules}
 use Rattle.rym1.specs.File.{grid}
 use Rattle.points.proofs.records.grid.Goals as goal
 

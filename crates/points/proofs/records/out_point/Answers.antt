@@ -1,6 +1,5 @@
 -- `points::records::out_point` meets its contract: three numbers on end. Assumes nothing.
 use Rattle.rym1.proofs.Points.{point_stores}
-use borrow.Author.Rules.{rules}
 use Rattle.points.proofs.records.out_point.Goals as goal
 
 pub returns : goal.returns

@@ -1,5 +1,4 @@
 -- `points::records::point_at` meets its contract: each field is the number at its place. Assumes nothing.
-use borrow.Author.Rules.{rules}
 use Rattle.rym1.specs.File.{point_at}
 use Rattle.points.proofs.records.point_at.Goals as goal
 

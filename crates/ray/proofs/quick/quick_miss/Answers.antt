@@ -7,7 +7,6 @@ use native.Mathlib.Omega.{arith}
 use Rattle.filling.specs.Lists.{float, vec3, triangle}
 use Rattle.filling.proofs.Lists.{triangle_numbers}
 use Rattle.ray.specs.Quick.{quick_miss}
-use borrow.Author.Rules.{rules}
 use Rattle.ray.proofs.quick.quick_miss.Goals as goal
 
 pub number_at-ay-requires : goal.number_at-ay-requires

@@ -2,7 +2,6 @@
 use mathlib.Core.Path.{sym}
 use native.Mathlib.Omega.{arith}
 use lib.Seq.{length-take-le}
-use borrow.Author.Rules.{rules}
 use Rattle.stored.proofs.edited.is_same.Goals as goal
 
 pub slice_bounds-is_same_history-end : goal.slice_bounds-is_same_history-end

@@ -1,9 +1,6 @@
 -- `stored::edited::is_same_history`: every call and comparison lies in the case. Assumes nothing.
-use borrow.Author.Rules.{rules}
-use Prim.Native.Nat.{◌-◌, ◌≤◌}
-use mathlib.Core.Path.{◌≡◌, refl, ◌∙◌}
+use mathlib.Core.Path.{refl, ◌∙◌}
 use native.Mathlib.Omega.{arith}
-use lib.ListN.{length}
 use Rattle.stored.proofs.edited.is_same_history.Goals as goal
 
 pub copy_bytes-requires : goal.copy_bytes-requires

@@ -1,7 +1,4 @@
 -- `stored::parts::are_same_words` stays in its slices and ends. Assumes nothing.
-use Prim.Native.Nat.{◌-◌, ◌≤◌}
-use native.Mathlib.Omega.{arith}
-use lib.ListN.{length}
 use Rattle.stored.proofs.parts.are_same_words.Goals as goal
 
 pub returns-then-left-i : goal.returns-then-left-i

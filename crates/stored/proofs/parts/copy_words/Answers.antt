@@ -1,8 +1,7 @@
 -- `stored::parts::copy_words` stays in its slices and ends. Assumes nothing.
-use Prim.Native.Nat.{◌-◌, ◌≤◌}
-use mathlib.Core.Path.{◌≡◌, refl}
+use mathlib.Core.Path.{refl}
 use native.Mathlib.Omega.{arith}
-use lib.ListN.{length, length-set}
+use lib.ListN.{length-set}
 use Rattle.stored.proofs.parts.copy_words.Goals as goal
 
 pub loop-i-init : goal.loop-i-init

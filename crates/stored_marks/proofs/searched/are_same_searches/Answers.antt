@@ -1,7 +1,5 @@
 -- `stored_marks::searched::are_same_searches`: every search lies in the case. Assumes nothing.
-use Prim.Native.Nat.{◌-◌, ◌≤◌}
 use native.Mathlib.Omega.{arith}
-use borrow.Author.Rules.{rules}
 use Rattle.stored_marks.proofs.searched.are_same_searches.Goals as goal
 
 pub is_same_search-requires : goal.is_same_search-requires

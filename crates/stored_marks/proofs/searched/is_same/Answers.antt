@@ -5,7 +5,6 @@ use mathlib.Core.List.{◌++◌}
 use native.Mathlib.Omega.{arith}
 use lib.ListN.{length, drop, length-append}
 use lib.Seq.{length-take-le}
-use borrow.Author.Rules.{rules}
 use Rattle.stored_marks.proofs.searched.is_same.Goals as goal
 
 pub slice_bounds-copy_words-end : goal.slice_bounds-copy_words-end

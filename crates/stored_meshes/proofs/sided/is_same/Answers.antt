@@ -2,7 +2,6 @@
 use mathlib.Core.Path.{sym}
 use native.Mathlib.Omega.{arith}
 use lib.Seq.{length-take-le}
-use borrow.Author.Rules.{rules}
 use Rattle.stored_meshes.proofs.sided.is_same.Goals as goal
 
 pub slice_bounds-inside-end-2 : goal.slice_bounds-inside-end-2

@@ -1,9 +1,8 @@
 -- `sums::ordered::out_order` meets its contract: as `out_row`, a plane a turn. Assumes nothing.
-use Prim.Native.Nat.{◌-◌, ◌≤◌}
 use native.Mathlib.Omega.{arith}
 use Rattle.rym1.specs.Cells.{look}
 use Rattle.rtm1.specs.Visit.{plane}
-use Rattle.sums.proofs.Order.{Storing, storing_start, storing_room, storing_turn, storing_end}
+use Rattle.sums.proofs.Order.{storing_start, storing_room, storing_turn, storing_end}
 use Rattle.sums.proofs.ordered.out_order.Goals as goal
 
 pub loop-z-init : goal.loop-z-init

@@ -1,8 +1,7 @@
 use Prim.Native.Nat.{◌-◌, ◌≤◌}
-use native.Mathlib.Omega.{arith}
 use Rattle.rym1.specs.Cells.{look}
 use Rattle.rtm1.specs.Visit.{plane}
-use Rattle.sums.proofs.Order.{Storing, storing_start, storing_room, storing_turn, storing_end}
+use Rattle.sums.proofs.Order.{Storing}
 use Rattle.sums.proofs.ordered.out_order.Given as goal
 
 abbrev pub invariant-loop-z : goal.invariant-loop-z

@@ -1,9 +1,8 @@
 -- `sums::ordered::out_plane` meets its contract: as `out_row`, a row a turn. Assumes nothing.
-use Prim.Native.Nat.{◌-◌, ◌≤◌}
 use native.Mathlib.Omega.{arith}
 use Rattle.rym1.specs.Cells.{look}
 use Rattle.rtm1.specs.Visit.{row}
-use Rattle.sums.proofs.Order.{Storing, storing_start, storing_room, storing_turn, storing_end}
+use Rattle.sums.proofs.Order.{storing_start, storing_room, storing_turn, storing_end}
 use Rattle.sums.proofs.ordered.out_plane.Goals as goal
 
 pub loop-y-init : goal.loop-y-init

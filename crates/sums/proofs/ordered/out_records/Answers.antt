@@ -1,8 +1,8 @@
 -- `sums::ordered::out_records` meets its contract: what stands, with the numbers to come, is all of it. Assumes nothing.
-use Prim.Native.Nat.{◌+◌, ◌-◌, ◌≤◌}
-use mathlib.Core.Path.{◌≡◌, refl}
+use Prim.Native.Nat.{◌+◌}
+use mathlib.Core.Path.{refl}
 use native.Mathlib.Omega.{arith}
-use Rattle.sums.proofs.Order.{Counting, counting_start, counting_room, counting_turn, counting_end}
+use Rattle.sums.proofs.Order.{counting_start, counting_room, counting_turn, counting_end}
 use borrow.Author.Rules.{rules}
 use Rattle.sums.proofs.ordered.out_records.Goals as goal
 

@@ -1,8 +1,5 @@
-use Prim.Native.Nat.{◌+◌, ◌-◌, ◌≤◌}
-use mathlib.Core.Path.{◌≡◌, refl}
-use native.Mathlib.Omega.{arith}
-use Rattle.sums.proofs.Order.{Counting, counting_start, counting_room, counting_turn, counting_end}
-use borrow.Author.Rules.{rules}
+use Prim.Native.Nat.{◌-◌, ◌≤◌}
+use Rattle.sums.proofs.Order.{Counting}
 use Rattle.sums.proofs.ordered.out_records.Given as goal
 
 abbrev pub invariant-loop-index : goal.invariant-loop-index

@@ -1,14 +1,11 @@
 -- `sums::ordered::out_row` meets its contract: what stands, with the rest of the row, is the whole row. Assumes nothing.
-use Prim.Native.Nat.{◌+◌, ◌-◌, ◌*◌, ◌≤◌, ◌<◌}
-use mathlib.Core.Path.{◌≡◌}
 use native.Mathlib.Omega.{arith}
-use lib.ListN.{length}
 use Rattle.rym1.specs.Cells.{look}
 use Rattle.rtm1.specs.Visit.{point_in}
 use Rattle.runs.specs.Runs.{placed}
 use Rattle.runs.proofs.Runs.{length_placed}
 use Rattle.sums.proofs.Added.{count_fits}
-use Rattle.sums.proofs.Order.{Storing, storing_start, room_on, records_ordered, storing_on, storing_end}
+use Rattle.sums.proofs.Order.{storing_start, room_on, records_ordered, storing_on, storing_end}
 use Rattle.sums.proofs.ordered.out_row.Goals as goal
 
 pub loop-x-init : goal.loop-x-init

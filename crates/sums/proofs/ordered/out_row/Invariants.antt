@@ -1,13 +1,7 @@
-use Prim.Native.Nat.{◌+◌, ◌-◌, ◌*◌, ◌≤◌, ◌<◌}
-use mathlib.Core.Path.{◌≡◌}
-use native.Mathlib.Omega.{arith}
-use lib.ListN.{length}
+use Prim.Native.Nat.{◌-◌, ◌≤◌}
 use Rattle.rym1.specs.Cells.{look}
 use Rattle.rtm1.specs.Visit.{point_in}
-use Rattle.runs.specs.Runs.{placed}
-use Rattle.runs.proofs.Runs.{length_placed}
-use Rattle.sums.proofs.Added.{count_fits}
-use Rattle.sums.proofs.Order.{Storing, storing_start, room_on, records_ordered, storing_on, storing_end}
+use Rattle.sums.proofs.Order.{Storing}
 use Rattle.sums.proofs.ordered.out_row.Given as goal
 
 abbrev pub invariant-loop-x : goal.invariant-loop-x

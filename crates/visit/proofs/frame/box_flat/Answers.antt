@@ -1,7 +1,6 @@
 -- `visit::frame::box_flat` meets its contract: each way out rewrites with the tests that led there. Assumes nothing.
 use mathlib.Core.Path.{sym, ◌∙◌}
 use Rattle.filling.specs.Fill.{box_flat}
-use borrow.Author.Rules.{rules}
 use Rattle.visit.proofs.frame.box_flat.Goals as goal
 
 pub returns-then-flat : goal.returns-then-flat

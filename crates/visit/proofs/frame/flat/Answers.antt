@@ -1,7 +1,6 @@
 -- `visit::frame::flat` meets its contract: what is too large is below nothing. Assumes nothing.
 use Rattle.binary.proofs.Words.{word_large, word_small}
 use Rattle.filling.specs.Fill.{below_narrowed, flat}
-use borrow.Author.Rules.{rules}
 use Rattle.visit.proofs.frame.flat.Goals as goal
 
 pub returns-in_default : goal.returns-in_default

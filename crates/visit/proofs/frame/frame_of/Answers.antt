@@ -1,6 +1,5 @@
 -- `visit::frame::frame_of` meets its contract. Assumes nothing.
 use Rattle.filling.specs.Frame.{frame}
-use borrow.Author.Rules.{rules}
 use Rattle.visit.proofs.frame.frame_of.Goals as goal
 
 pub returns : goal.returns

@@ -1,6 +1,5 @@
 -- `visit::frame::frame_padded` meets its contract. Assumes nothing.
 use Rattle.filling.specs.Frame.{frame_padded}
-use borrow.Author.Rules.{rules}
 use Rattle.visit.proofs.frame.frame_padded.Goals as goal
 
 pub returns : goal.returns

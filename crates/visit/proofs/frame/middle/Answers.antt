@@ -1,6 +1,5 @@
 -- `visit::frame::middle` meets its contract. Assumes nothing.
 use Rattle.filling.specs.Frame.{middle}
-use borrow.Author.Rules.{rules}
 use Rattle.visit.proofs.frame.middle.Goals as goal
 
 pub returns : goal.returns

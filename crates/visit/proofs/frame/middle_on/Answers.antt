@@ -1,7 +1,6 @@
 -- `visit::frame::middle_on` meets its contract. Assumes nothing.
 use mathlib.Core.Path.{refl}
 use Rattle.filling.specs.Frame.{middle_on}
-use borrow.Author.Rules.{rules}
 use Rattle.visit.proofs.frame.middle_on.Goals as goal
 
 pub returns : goal.returns

@@ -1,6 +1,5 @@
 -- `visit::frame::padding` meets its contract. Assumes nothing.
 use Rattle.filling.specs.Frame.{padding}
-use borrow.Author.Rules.{rules}
 use Rattle.visit.proofs.frame.padding.Goals as goal
 
 pub returns : goal.returns

@@ -1,10 +1,9 @@
 -- `edits::find::find_cell` meets its contract: every record before index i names a lower cell. Assumes nothing.
-use Prim.Native.Nat.{◌-◌, ◌<◌}
+use Prim.Native.Nat.{◌<◌}
 use native.Mathlib.Omega.{arith}
 use Rattle.rym1.specs.File.{grid, count, size, points, cell_of}
 use Rattle.rym1.proofs.Accepted.{accepted, accepted_points, inside_at}
-use Rattle.working.proofs.Finding.{Seeking, seek_start, seek_turn, seek_held, seek_past, seek_end}
-use borrow.Author.Rules.{rules}
+use Rattle.working.proofs.Finding.{seek_start, seek_turn, seek_held, seek_past, seek_end}
 use Rattle.working.proofs.find.find_cell.Goals as goal
 
 pub grid-g-requires : goal.grid-g-requires

@@ -1,7 +1,5 @@
 -- `edits::moves::move_down` meets its contract: what is moved is one splice of the bytes at entry. Assumes nothing.
-use Prim.Native.Nat.{◌-◌}
-use borrow.Author.Rules.{rules}
-use Rattle.working.proofs.Moving.{Down, down_start, down_again, down_end}
+use Rattle.working.proofs.Moving.{down_start, down_again, down_end}
 use Rattle.working.proofs.moves.move_down.Goals as goal
 
 pub loop-done-init : goal.loop-done-init

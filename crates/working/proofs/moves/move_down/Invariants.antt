@@ -1,6 +1,5 @@
 use Prim.Native.Nat.{◌-◌}
-use borrow.Author.Rules.{rules}
-use Rattle.working.proofs.Moving.{Down, down_start, down_again, down_end}
+use Rattle.working.proofs.Moving.{Down}
 use Rattle.working.proofs.moves.move_down.Given as goal
 
 abbrev pub invariant-loop-done : goal.invariant-loop-done

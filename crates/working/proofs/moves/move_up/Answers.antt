@@ -1,7 +1,6 @@
 -- `edits::moves::move_up` meets its contract: what is moved is one splice of the bytes at entry. Assumes nothing.
 use native.Mathlib.Omega.{arith}
-use borrow.Author.Rules.{rules}
-use Rattle.working.proofs.Moving.{Up, up_start, up_again, up_end}
+use Rattle.working.proofs.Moving.{up_start, up_again, up_end}
 use Rattle.working.proofs.moves.move_up.Goals as goal
 
 pub loop-left-init : goal.loop-left-init

@@ -1,6 +1,4 @@
-use native.Mathlib.Omega.{arith}
-use borrow.Author.Rules.{rules}
-use Rattle.working.proofs.Moving.{Up, up_start, up_again, up_end}
+use Rattle.working.proofs.Moving.{Up}
 use Rattle.working.proofs.moves.move_up.Given as goal
 
 abbrev pub invariant-loop-left : goal.invariant-loop-left

@@ -2,7 +2,6 @@
 use native.Mathlib.Omega.{arith}
 use Rattle.rym1.specs.File.{size}
 use Rattle.working.proofs.Moving.{gone}
-use borrow.Author.Rules.{rules}
 use Rattle.working.proofs.moves.remove_point.Goals as goal
 
 pub count-n-requires : goal.count-n-requires
