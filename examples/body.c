@@ -1,5 +1,5 @@
 /* A body from mesh to tree through the C boundary: output reserved, filled, opened, edited, undone and built.
-     rt staticlib mascon
+     tools/staticlib
      cc -std=c99 -Iinclude examples/body.c -o body target/staticlib/libmascon.a
    It prints what was made and exits with 0, or says which call was refused and why, and exits with 1. */
 #include "mascon.h"

@@ -31,7 +31,7 @@ need_library() {
     local call calls
     if [ ! -f "$shipped" ]; then
         [ -z "${MASCON_LIB_DIR:-}" ] || fuzz_error "MASCON_LIB_DIR: no $shipped" || return 1
-        (cd .. && rt staticlib mascon) || return 1
+        ../tools/staticlib || return 1
     fi
     calls=$(nm -g --defined-only "$shipped" | sed -n 's/.* T mascon_//p') && [ -n "$calls" ] ||
         fuzz_error "no exported call in $shipped" || return 1

@@ -1,4 +1,4 @@
-//! Finds the proved library. `MASCON_LIB_DIR` is the folder with `libmascon.a`, else `../target/staticlib`, made by `rt staticlib mascon` if
+//! Finds the proved library. `MASCON_LIB_DIR` is the folder with `libmascon.a`, else `../target/staticlib`, made by `tools/staticlib` if
 //! it is not there.
 
 use std::env;
@@ -29,7 +29,7 @@ fn library(root: &Path) {
         prove(&root.join(".."));
         assert!(
             archive.is_file(),
-            "rt staticlib mascon wrote no {}",
+            "tools/staticlib wrote no {}",
             archive.display()
         );
     }
@@ -39,14 +39,13 @@ fn library(root: &Path) {
 }
 
 fn prove(repository: &Path) {
-    let run = Command::new("rt")
-        .args(["staticlib", "mascon"])
+    let run = Command::new("tools/staticlib")
         .current_dir(repository)
         .output()
-        .unwrap_or_else(|error| panic!("rt staticlib mascon: {error}"));
+        .unwrap_or_else(|error| panic!("tools/staticlib: {error}"));
     assert!(
         run.status.success(),
-        "rt staticlib mascon: {}\n{}{}",
+        "tools/staticlib: {}\n{}{}",
         run.status,
         String::from_utf8_lossy(&run.stdout),
         String::from_utf8_lossy(&run.stderr)

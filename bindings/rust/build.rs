@@ -1,5 +1,5 @@
 //! Finds libmascon.a: in the folder that MASCON_LIB_DIR names, else in target/staticlib of the repository, which
-//! `rt staticlib mascon` proves and writes. It is run only where the archive is missing or older than a source, by one build at a time.
+//! `tools/staticlib` proves and writes. It is run only where the archive is missing or older than a source, by one build at a time.
 //! What is linked is a copy of this build's own, so that no other build writes it meanwhile.
 
 use std::fs::File;
@@ -71,7 +71,7 @@ fn proved(out: &Path) {
     if written(&archive).is_none_or(|made| changed.is_some_and(|changed| changed >= made)) {
         run(root, archive.is_file());
     }
-    assert!(archive.is_file(), "rt staticlib mascon wrote no {ARCHIVE}");
+    assert!(archive.is_file(), "tools/staticlib wrote no {ARCHIVE}");
     copy(&archive, out);
 }
 
@@ -81,15 +81,18 @@ fn written(path: &Path) -> Option<SystemTime> {
 
 /// When a file or folder, or anything in it, was written last.
 fn latest(path: &Path) -> Option<SystemTime> {
+    // What the prover keeps is no source.
+    if path.ends_with("out") {
+        return None;
+    }
     let inside = fs::read_dir(path).into_iter().flatten().flatten();
     let inside = inside.filter_map(|entry| latest(&entry.path())).max();
     written(path).max(inside)
 }
 
-/// Runs `rt staticlib mascon` in the repository's root. It proves again only what has changed.
+/// Runs `tools/staticlib` in the repository's root. It proves again only what has changed.
 fn run(root: &Path, there: bool) {
-    let run = Command::new("rt")
-        .args(["staticlib", "mascon"])
+    let run = Command::new("tools/staticlib")
         .current_dir(root)
         .stdout(Stdio::piped())
         .stderr(Stdio::piped())
@@ -103,12 +106,16 @@ fn run(root: &Path, there: bool) {
         });
     match run {
         Ok((status, _)) if status.success() => {}
-        Ok((status, lines)) => panic!("rt staticlib mascon: {status}\n{lines}"),
+        // The shell's status for a command that is not there.
+        Ok((status, _)) if there && status.code() == Some(127) => {
+            println!("cargo:warning=rt is not there; {ARCHIVE} is taken as it stands");
+        }
+        Ok((status, lines)) => panic!("tools/staticlib: {status}\n{lines}"),
         Err(error) if there => {
-            println!("cargo:warning=rt staticlib mascon: {error}; {ARCHIVE} is taken as it stands");
+            println!("cargo:warning=tools/staticlib: {error}; {ARCHIVE} is taken as it stands");
         }
         Err(error) => panic!(
-            "rt staticlib mascon: {error}: install the Rattle toolchain, or set MASCON_LIB_DIR to the folder of {ARCHIVE}"
+            "tools/staticlib: {error}: install the Rattle toolchain, or set MASCON_LIB_DIR to the folder of {ARCHIVE}"
         ),
     }
 }

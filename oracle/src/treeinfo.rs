@@ -33,7 +33,7 @@ struct Input {
     line: Option<&'static str>,
 }
 
-/// The program: `MASCON_TREEINFO`, else this repository's, made by `rt check treeinfo` if it is not there.
+/// The program: `MASCON_TREEINFO`, else this repository's, made by `tools/program treeinfo` if it is not there.
 fn program() -> Result<PathBuf, String> {
     if let Some(path) = env::var_os("MASCON_TREEINFO") {
         return Ok(PathBuf::from(path));
@@ -41,14 +41,14 @@ fn program() -> Result<PathBuf, String> {
     let repository = Path::new(env!("CARGO_MANIFEST_DIR")).join("..");
     let path = repository.join("target/bin/treeinfo");
     if !path.is_file() {
-        let run = Command::new("rt")
-            .args(["check", "treeinfo"])
+        let run = Command::new("tools/program")
+            .arg("treeinfo")
             .current_dir(&repository)
             .output()
-            .map_err(|error| format!("rt check treeinfo: {error}"))?;
+            .map_err(|error| format!("tools/program treeinfo: {error}"))?;
         if !run.status.success() || !path.is_file() {
             return Err(format!(
-                "rt check treeinfo: {}, {} is not there\n{}{}",
+                "tools/program treeinfo: {}, {} is not there\n{}{}",
                 run.status,
                 path.display(),
                 String::from_utf8_lossy(&run.stdout),

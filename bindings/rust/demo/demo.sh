@@ -8,9 +8,9 @@ dir=${1:-$crate/target/demo}
 
 root=$(cd "$crate/../.." && pwd)
 archive=$root/target/staticlib/libmascon.a
-if [ -z "${MASCON_LIB_DIR:-}" ] && { [ ! -e "$archive" ] || [ -n "$(find "$root/crates" "$root/crates.txt" -newer "$archive" -print -quit)" ]; }; then
+if [ -z "${MASCON_LIB_DIR:-}" ] && { [ ! -e "$archive" ] || [ -n "$(find "$root/crates" "$root/crates.txt" -name out -prune -o -newer "$archive" -print -quit)" ]; }; then
     echo "Proving the library, a line a crate; some minutes, the first time."
-    (cd "$root" && rt staticlib mascon 2>&1) | sed -nu 's/^rt: //p'
+    ("$root/tools/staticlib" 2>&1) | sed -nu 's/^rt: //p'
 fi
 echo "Building the program."
 target=${CARGO_TARGET_DIR:-$crate/target}

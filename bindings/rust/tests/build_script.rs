@@ -1,4 +1,4 @@
-//! The build script, compiled by itself and run in a small repository with a stand-in for `rt`.
+//! The build script, compiled by itself and run in a small repository with a stand-in for `tools/staticlib`.
 #![cfg(unix)]
 
 mod common;
@@ -11,8 +11,8 @@ use std::process::{Command, Output};
 use std::time::{Duration, SystemTime};
 
 /// Notes each run, takes a while, and writes the archive in two steps: one that runs at the same time would see the first.
-const RT: &str = "#!/bin/sh
-echo \"$*\" >> runs
+const STATICLIB: &str = "#!/bin/sh
+echo \"$0\" >> runs
 archive=target/staticlib/libmascon.a
 [ -e fails ] && { echo why; echo 'rt: float NOT PROVED' >&2; exit 1; }
 echo half > $archive
@@ -30,14 +30,18 @@ struct Repository {
 impl Repository {
     fn new(name: &str) -> Repository {
         let folder = Folder::new(name);
-        for path in ["crates/one/src", "bin", "bindings/rust", "out"] {
+        for path in ["crates/one/src", "tools", "bindings/rust", "out"] {
             fs::create_dir_all(folder.file(path)).unwrap();
         }
         for path in ["crates.txt", "crates/one/src/lib.rt"] {
             fs::write(folder.file(path), "").unwrap();
         }
-        fs::write(folder.file("bin/rt"), RT).unwrap();
-        fs::set_permissions(folder.file("bin/rt"), fs::Permissions::from_mode(0o755)).unwrap();
+        fs::write(folder.file("tools/staticlib"), STATICLIB).unwrap();
+        fs::set_permissions(
+            folder.file("tools/staticlib"),
+            fs::Permissions::from_mode(0o755),
+        )
+        .unwrap();
         let script = folder.file("script");
         let compiled = Command::new("rustc")
             .args(["--edition", "2021", "-o"])
@@ -49,11 +53,9 @@ impl Repository {
     }
 
     fn command(&self, out: &str) -> Command {
-        let folders = std::env::var("PATH").unwrap();
         let folder = |name: &str| self.folder.file(name);
         let mut command = Command::new(&self.script);
         command
-            .env("PATH", format!("{}:{folders}", folder("bin").display()))
             .env("CARGO_CFG_TARGET_ARCH", "x86_64")
             .env("CARGO_MANIFEST_DIR", folder("bindings/rust"))
             .env("OUT_DIR", folder(out))
@@ -83,7 +85,7 @@ fn proves_only_what_has_changed() {
         (1, "half\nwhole\n".into())
     );
     let runs = fs::read_to_string(repository.folder.file("runs")).unwrap();
-    assert_eq!(runs, "staticlib mascon\n");
+    assert_eq!(runs, "tools/staticlib\n");
     // The archive is newer than every source.
     assert!(repository.run().status.success());
     assert_eq!(repository.runs(), 1);

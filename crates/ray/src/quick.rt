@@ -56,8 +56,8 @@ pub fn skips_row(s: &[u8], at: usize, y: f64, z: f64, near: bool) -> bool
     ensures { result ≡ true → (near ≡ true)
         × ((x : Float) → up_to point_limit x ≡ true → ray (vec x y z) (triangle s.now at) ≡ Miss) }
 {
-    if !near {
-        return false;
+    if near {
+        return quick_miss(s, at, Vec3 { x: 0.0, y, z });
     }
-    quick_miss(s, at, Vec3 { x: 0.0, y, z })
+    false
 }

@@ -2,35 +2,33 @@
 // `nodes 3 order 9 bytes 340`, or `refused 6` with the cause's number. Its 4,096 words of scratch are enough for g up to 16, of a file in working form up to 40.
 #![tactic(auto)]
 
-use libc::{STDIN_FILENO, STDOUT_FILENO};
 use mascon_tree::build_mascon_tree;
 use number::cause_number;
-use rtm1::Built;
+use reading::read_full;
+use rtm1::{Built, Counts};
+use std::io;
 
-// A word, and a number behind it.
-fn say(word: &[u8], n: u64) {
-    io::write_all(STDOUT_FILENO, word);
-    io::print_decimal(STDOUT_FILENO, n);
-}
-
-fn report(built: Built) {
+fn report(rt: &impl Print, built: Built) -> io::Result<()> {
     match built {
         Built::Refused(cause) => {
-            say(b"refused ", cause_number(cause));
+            let number = cause_number(cause);
+            println!(rt; "refused {number}")
         }
         Built::Done(counts) => {
-            say(b"nodes ", counts.nodes);
-            say(b" order ", counts.order);
-            say(b" bytes ", counts.length);
+            let Counts {
+                length,
+                nodes,
+                order,
+            } = counts;
+            println!(rt; "nodes {nodes} order {order} bytes {length}")
         }
     }
-    io::write_all(STDOUT_FILENO, b"\n");
 }
 
-fn main() {
+fn main(rt: HostRuntime) -> io::Result<()> {
     let mut input: [u8; 16384] = [0; 16384];
     let mut scratch: [u32; 4096] = [0; 4096];
     let mut out: [u8; 32768] = [0; 32768];
-    let n = io::read_full(STDIN_FILENO, &mut input);
-    report(build_mascon_tree(&input[..n], &mut scratch, &mut out));
+    let n = read_full(&mut rt.stdin(), &mut input)?;
+    report(&rt, build_mascon_tree(&input[..n], &mut scratch, &mut out))
 }

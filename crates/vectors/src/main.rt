@@ -4,16 +4,18 @@
 mod replay;
 
 use replay::{Kind, replay_file};
+use std::io;
 
-fn main() {
-    replay_file(b"narrow", b"narrow.bin", Kind::Narrow);
-    replay_file(b"open", b"open.bin", Kind::Open);
-    replay_file(b"build", b"build.bin", Kind::Build);
-    replay_file(b"cost", b"cost.bin", Kind::Cost);
-    replay_file(b"costliest", b"costliest.bin", Kind::Costliest);
-    replay_file(b"next", b"next.bin", Kind::Next);
-    replay_file(b"edit", b"edit.bin", Kind::Edit);
-    replay_file(b"ray", b"ray.bin", Kind::Ray);
-    replay_file(b"inside", b"inside.bin", Kind::Inside);
-    replay_file(b"fill", b"fill.bin", Kind::Fill);
+fn main(rt: HostRuntime) -> io::Result<()> {
+    replay_file(&rt, "narrow", "narrow.bin", Kind::Narrow)?;
+    replay_file(&rt, "open", "open.bin", Kind::Open)?;
+    replay_file(&rt, "build", "build.bin", Kind::Build)?;
+    replay_file(&rt, "cost", "cost.bin", Kind::Cost)?;
+    replay_file(&rt, "costliest", "costliest.bin", Kind::Costliest)?;
+    replay_file(&rt, "next", "next.bin", Kind::Next)?;
+    replay_file(&rt, "edit", "edit.bin", Kind::Edit)?;
+    replay_file(&rt, "ray", "ray.bin", Kind::Ray)?;
+    replay_file(&rt, "inside", "inside.bin", Kind::Inside)?;
+    replay_file(&rt, "fill", "fill.bin", Kind::Fill)?;
+    Ok(())
 }

@@ -2,7 +2,10 @@
 // A further kind is a module of stored, stored_marks or stored_meshes with its size and its `is_same`, named in `case_size` and `is_same_case` below, and a line of `main`.
 ghost use Rattle.std.specs.Prelude.{◌≤◌};
 
-use libc::STDOUT_FILENO;
+use reading::read_full;
+use std::io::Read;
+use std::rt::Files;
+use std::{fs, io};
 use stored::{built, costed, edited, narrowed, opened, written};
 use stored_marks::searched;
 use stored_meshes::{crossed, filled, sided};
@@ -63,18 +66,18 @@ enum Seen {
 }
 
 // The next case of the file. One that is cut short is different.
-fn next_case(fd: i32, kind: Kind, case: &mut [u8]) -> Seen {
-    let n = io::read_full(fd, case);
+fn next_case<R: Read>(file: &mut R, kind: Kind, case: &mut [u8]) -> io::Result<Seen> {
+    let n = read_full(file, case)?;
     if n == 0 {
-        return Seen::End;
+        return Ok(Seen::End);
     }
     if n < case.len() {
-        return Seen::Different;
+        return Ok(Seen::Different);
     }
     if is_same_case(kind, case) {
-        return Seen::Same;
+        return Ok(Seen::Same);
     }
-    Seen::Different
+    Ok(Seen::Different)
 }
 
 #[derive(Clone, Copy)]
@@ -84,11 +87,11 @@ struct Tally {
 }
 
 // All cases up to the file's end. A proved loop has to end: it stops at a count that no file reaches.
-fn count_cases(fd: i32, kind: Kind, case: &mut [u8]) -> Tally {
+fn count_cases<R: Read>(file: &mut R, kind: Kind, case: &mut [u8]) -> io::Result<Tally> {
     let mut same: u64 = 0;
     let mut cases: u64 = 0;
     while cases < u64::MAX {
-        match next_case(fd, kind, case) {
+        match next_case(file, kind, case)? {
             Seen::Same => {
                 same += 1;
             }
@@ -99,28 +102,14 @@ fn count_cases(fd: i32, kind: Kind, case: &mut [u8]) -> Tally {
         }
         cases += 1;
     }
-    Tally { same, cases }
+    Ok(Tally { same, cases })
 }
 
 // One line: what was replayed, and how many cases of how many are the same.
-fn report(name: &[u8], tally: Tally) {
-    io::write_all(STDOUT_FILENO, name);
-    io::write_all(STDOUT_FILENO, b" ");
-    io::print_decimal(STDOUT_FILENO, tally.same);
-    io::write_all(STDOUT_FILENO, b" of ");
-    io::print_decimal(STDOUT_FILENO, tally.cases);
-    io::write_all(STDOUT_FILENO, b"\n");
-}
-
-pub fn replay_file(name: &[u8], path: &[u8], kind: Kind) {
-    let fd = os::open_read(path);
-    if fd < 0 {
-        os::fail(path);
-        return;
-    }
-    let mut buffer = io::large_buffer();
+pub fn replay_file<R: Files + Print>(rt: &R, name: &str, path: &str, kind: Kind) -> io::Result<()> {
+    let mut file = fs::open(rt, path)?;
+    let mut buffer: [u8; 65536] = [0; 65536];
     let size = case_size(kind);
-    let tally = count_cases(fd, kind, &mut buffer[..size]);
-    libc::close(fd);
-    report(name, tally);
+    let Tally { same, cases } = count_cases(&mut file, kind, &mut buffer[..size])?;
+    println!(rt; "{name} {same} of {cases}")
 }

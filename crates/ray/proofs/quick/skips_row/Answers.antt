@@ -5,11 +5,11 @@ use borrow.Author.Tests.{not-false}
 use Rattle.ray.proofs.QuickLaws.{row_misses}
 use Rattle.ray.proofs.quick.skips_row.Goals as goal
 
-pub returns-then-not-near : goal.returns-then-not-near
-returns-then-not-near c = λ e. absurd (true≢false (sym e))
-
 pub returns : goal.returns
-returns c =
-    let yes = not-false c.args.near c.if-not-near.false-raw in
+returns c = λ e. absurd (true≢false (sym e))
+
+pub returns-then-near : goal.returns-then-near
+returns-then-near c =
+    let yes = c.if-near.true in
     let near = c.requires.y_value yes in
     λ e. (yes, λ x h. row_misses x _ c.args.y c.args.z _ c.requires.at_in_bounds.1 near.0 near.1 h (sym c.quick_miss.ensures ∙ e))
