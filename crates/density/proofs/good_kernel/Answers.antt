@@ -7,11 +7,11 @@ use Rattle.density.proofs.good_kernel.Goals as goal
 
 pub returns-then-not-vector_up_to : goal.returns-then-not-vector_up_to
 unfolding good_kernel
-returns-then-not-vector_up_to c = rw (← c.vector_up_to.ensures, not-true c.vector_up_to.result c.if-not-vector_up_to.true-raw)
+returns-then-not-vector_up_to c = rw (← c.vector_up_to.ensures, c.if-not-vector_up_to.true)
 
 pub returns-then-not-k : goal.returns-then-not-k
 unfolding good_kernel
-returns-then-not-k c = rw (← c.vector_up_to.ensures, not-false c.vector_up_to.result c.if-not-vector_up_to.false-raw, not-true (le zero64 c.args.k.sigma) c.if-not-k.true-raw)
+returns-then-not-k c = rw (← c.vector_up_to.ensures, c.if-not-vector_up_to.false, c.if-not-k.true)
 
 pub returns-then-not-k-2 : goal.returns-then-not-k-2
 unfolding good_kernel
@@ -19,9 +19,9 @@ returns-then-not-k-2 c =
     let k = c.args.k in
     rw (
       ← c.vector_up_to.ensures,
-      not-false c.vector_up_to.result c.if-not-vector_up_to.false-raw,
-      not-false (le zero64 k.sigma) c.if-not-k.false-raw,
-      not-true (le k.sigma coordinate_limit) c.if-not-k-2.true-raw,
+      c.if-not-vector_up_to.false,
+      c.if-not-k.false,
+      c.if-not-k-2.true,
     )
 
 pub returns : goal.returns
@@ -30,8 +30,8 @@ returns c =
     let k = c.args.k in
     rw (
       ← c.vector_up_to.ensures,
-      not-false c.vector_up_to.result c.if-not-vector_up_to.false-raw,
-      not-false (le zero64 k.sigma) c.if-not-k.false-raw,
-      not-false (le k.sigma coordinate_limit) c.if-not-k-2.false-raw,
+      c.if-not-vector_up_to.false,
+      c.if-not-k.false,
+      c.if-not-k-2.false,
     )
     c.up_to.ensures

@@ -15,13 +15,13 @@ pub returns-then-not-good_kernel : goal.returns-then-not-good_kernel
 unfolding good_kernels
 returns-then-not-good_kernel c =
     let more = ap good_kernels (kernels_more c.args.s.now c.loop-i.i c.args.n (omega arith)) in
-    rw (← c.loop-i.invariant.1, more, ← c.kernel_at-k.ensures, ← c.good_kernel.ensures, not-true c.good_kernel.result c.if-not-good_kernel.true-raw)
+    rw (← c.loop-i.invariant.1, more, ← c.kernel_at-k.ensures, ← c.good_kernel.ensures, c.if-not-good_kernel.true)
 
 pub loop-i-preserved : goal.loop-i-preserved
 unfolding good_kernels
 loop-i-preserved c =
     let more = ap good_kernels (kernels_more c.args.s.now c.loop-i.i c.args.n (omega arith)) in
-    (omega arith, rw (← c.loop-i.invariant.1, more, ← c.kernel_at-k.ensures, ← c.good_kernel.ensures, not-false c.good_kernel.result c.if-not-good_kernel.false-raw))
+    (omega arith, rw (← c.loop-i.invariant.1, more, ← c.kernel_at-k.ensures, ← c.good_kernel.ensures, c.if-not-good_kernel.false))
 
 pub returns : goal.returns
 unfolding good_kernels kernels_at

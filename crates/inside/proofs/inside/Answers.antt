@@ -19,7 +19,7 @@ unfolding side_number number
 returns-then-not-vector_up_to c = (
   wrong_point _ _ _
       (sym c.mesh_wrong.ensures ∙ c.if-mesh_wrong.false)
-      (sym c.vector_up_to.ensures ∙ not-true _ c.if-not-vector_up_to.true-raw),
+      (sym c.vector_up_to.ensures ∙ c.if-not-vector_up_to.true),
   λ _. refl,
 )
 
@@ -28,7 +28,7 @@ unfolding side_number number
 returns-then-floats-s c = (
   few_floats _ _ _
       (sym c.mesh_wrong.ensures ∙ c.if-mesh_wrong.false)
-      (sym c.vector_up_to.ensures ∙ not-false _ c.if-not-vector_up_to.false-raw)
+      (sym c.vector_up_to.ensures ∙ c.if-not-vector_up_to.false)
       c.if-floats-s.true,
   λ _. refl,
 )
@@ -41,7 +41,7 @@ unfolding side_number
 returns-then-is_inside c = (
   answered _ _ _ true
       (sym c.mesh_wrong.ensures ∙ c.if-mesh_wrong.false)
-      (sym c.vector_up_to.ensures ∙ not-false _ c.if-not-vector_up_to.false-raw)
+      (sym c.vector_up_to.ensures ∙ c.if-not-vector_up_to.false)
       c.if-floats-s.false
       (rw (
         ← c.bounds_of.ensures,
@@ -57,7 +57,7 @@ unfolding side_number
 returns c = (
   answered _ _ _ false
       (sym c.mesh_wrong.ensures ∙ c.if-mesh_wrong.false)
-      (sym c.vector_up_to.ensures ∙ not-false _ c.if-not-vector_up_to.false-raw)
+      (sym c.vector_up_to.ensures ∙ c.if-not-vector_up_to.false)
       c.if-floats-s.false
       (rw (
         ← c.bounds_of.ensures,

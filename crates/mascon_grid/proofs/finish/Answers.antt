@@ -29,7 +29,7 @@ returns-then-not-narrow_all c =
     let all = c.narrow_all in
     let hf = c.header_floats-floats.ensures in
     let tells = ap (λ (l : List Float). all_finite (float_words l)) (sym hf) ∙ all.ensures.tells in
-    way_floats a.g a.f a.w a.target a.density _ c.requires scale (tells ∙ not-true _ c.if-not-narrow_all.true-raw) _ _ c.clear_refused-then-not-narrow_all.ensures.0 c.clear_refused-then-not-narrow_all.ensures.1
+    way_floats a.g a.f a.w a.target a.density _ c.requires scale (tells ∙ c.if-not-narrow_all.true) _ _ c.clear_refused-then-not-narrow_all.ensures.0 c.clear_refused-then-not-narrow_all.ensures.1
 
 pub returns-then-not-scale_masses : goal.returns-then-not-scale_masses
 returns-then-not-scale_masses c =
@@ -40,7 +40,7 @@ returns-then-not-scale_masses c =
     let all = c.narrow_all in
     let hf = c.header_floats-floats.ensures in
     let tells = ap (λ (l : List Float). all_finite (float_words l)) (sym hf) ∙ all.ensures.tells in
-    let fine = not-false _ c.if-not-narrow_all.false-raw in
+    let fine = c.if-not-narrow_all.false in
     let words = all.ensures.written fine ∙ ap float_words hf in
     let k = ap (λ (l : List ℕ). get_or l 2 0) words ∙ scale_word a.f a.w a.target a.density in
     let l = c.f32_to_bits.ensures ∙ n.ensures.written c.in-Finite.l c.in-Finite.is ∙ ap float_word at in
@@ -57,7 +57,7 @@ returns c =
     let all = c.narrow_all in
     let hf = c.header_floats-floats.ensures in
     let tells = ap (λ (l : List Float). all_finite (float_words l)) (sym hf) ∙ all.ensures.tells in
-    let fine = not-false _ c.if-not-narrow_all.false-raw in
+    let fine = c.if-not-narrow_all.false in
     let words = all.ensures.written fine ∙ ap float_words hf in
     let k = ap (λ (l : List ℕ). get_or l 2 0) words ∙ scale_word a.f a.w a.target a.density in
     let l = c.f32_to_bits.ensures ∙ n.ensures.written c.in-Finite.l c.in-Finite.is ∙ ap float_word at in

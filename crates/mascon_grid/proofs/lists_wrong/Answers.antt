@@ -35,7 +35,7 @@ returns-then-not-up_to c =
       ← c.kernels_wrong-2.ensures,
       c.if-kernels_wrong-2.false,
       ← c.up_to.ensures,
-      not-true c.up_to.result c.if-not-up_to.true-raw,
+      c.if-not-up_to.true,
     )
 
 pub returns : goal.returns
@@ -49,6 +49,6 @@ returns c =
       ← c.kernels_wrong-2.ensures,
       c.if-kernels_wrong-2.false,
       ← c.up_to.ensures,
-      not-false c.up_to.result c.if-not-up_to.false-raw,
+      c.if-not-up_to.false,
       ← c.up_to-2.ensures,
     )

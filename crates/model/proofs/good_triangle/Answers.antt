@@ -5,12 +5,12 @@ use Rattle.model.proofs.good_triangle.Goals as goal
 
 pub returns-then-not-vector_up_to : goal.returns-then-not-vector_up_to
 unfolding good_triangle
-returns-then-not-vector_up_to c = rw (← c.vector_up_to.ensures, not-true c.vector_up_to.result c.if-not-vector_up_to.true-raw)
+returns-then-not-vector_up_to c = rw (← c.vector_up_to.ensures, c.if-not-vector_up_to.true)
 
 pub returns-then-not-vector_up_to-2 : goal.returns-then-not-vector_up_to-2
 unfolding good_triangle
-returns-then-not-vector_up_to-2 c = rw (← c.vector_up_to.ensures, not-false c.vector_up_to.result c.if-not-vector_up_to.false-raw, ← c.vector_up_to-2.ensures, not-true c.vector_up_to-2.result c.if-not-vector_up_to-2.true-raw)
+returns-then-not-vector_up_to-2 c = rw (← c.vector_up_to.ensures, c.if-not-vector_up_to.false, ← c.vector_up_to-2.ensures, c.if-not-vector_up_to-2.true)
 
 pub returns : goal.returns
 unfolding good_triangle
-returns c = rw (← c.vector_up_to.ensures, not-false c.vector_up_to.result c.if-not-vector_up_to.false-raw, ← c.vector_up_to-2.ensures, not-false c.vector_up_to-2.result c.if-not-vector_up_to-2.false-raw) c.vector_up_to-3.ensures
+returns c = rw (← c.vector_up_to.ensures, c.if-not-vector_up_to.false, ← c.vector_up_to-2.ensures, c.if-not-vector_up_to-2.false) c.vector_up_to-3.ensures

@@ -15,13 +15,13 @@ pub returns-then-not-good_triangle : goal.returns-then-not-good_triangle
 unfolding good_triangles
 returns-then-not-good_triangle c =
     let more = ap good_triangles (triangles_more c.args.s.now c.loop-i.i c.args.n (omega arith)) in
-    rw (← c.loop-i.invariant.1, more, ← c.triangle_at-t.ensures, ← c.good_triangle.ensures, not-true c.good_triangle.result c.if-not-good_triangle.true-raw)
+    rw (← c.loop-i.invariant.1, more, ← c.triangle_at-t.ensures, ← c.good_triangle.ensures, c.if-not-good_triangle.true)
 
 pub loop-i-preserved : goal.loop-i-preserved
 unfolding good_triangles
 loop-i-preserved c =
     let more = ap good_triangles (triangles_more c.args.s.now c.loop-i.i c.args.n (omega arith)) in
-    (omega arith, rw (← c.loop-i.invariant.1, more, ← c.triangle_at-t.ensures, ← c.good_triangle.ensures, not-false c.good_triangle.result c.if-not-good_triangle.false-raw))
+    (omega arith, rw (← c.loop-i.invariant.1, more, ← c.triangle_at-t.ensures, ← c.good_triangle.ensures, c.if-not-good_triangle.false))
 
 pub returns : goal.returns
 unfolding good_triangles triangles_at

@@ -5,12 +5,12 @@ use Rattle.model.proofs.vector_up_to.Goals as goal
 
 pub returns-then-not-up_to : goal.returns-then-not-up_to
 unfolding vector_up_to
-returns-then-not-up_to c = rw (← c.up_to.ensures, not-true c.up_to.result c.if-not-up_to.true-raw)
+returns-then-not-up_to c = rw (← c.up_to.ensures, c.if-not-up_to.true)
 
 pub returns-then-not-up_to-2 : goal.returns-then-not-up_to-2
 unfolding vector_up_to
-returns-then-not-up_to-2 c = rw (← c.up_to.ensures, not-false c.up_to.result c.if-not-up_to.false-raw, ← c.up_to-2.ensures, not-true c.up_to-2.result c.if-not-up_to-2.true-raw)
+returns-then-not-up_to-2 c = rw (← c.up_to.ensures, c.if-not-up_to.false, ← c.up_to-2.ensures, c.if-not-up_to-2.true)
 
 pub returns : goal.returns
 unfolding vector_up_to
-returns c = rw (← c.up_to.ensures, not-false c.up_to.result c.if-not-up_to.false-raw, ← c.up_to-2.ensures, not-false c.up_to-2.result c.if-not-up_to-2.false-raw) c.up_to-3.ensures
+returns c = rw (← c.up_to.ensures, c.if-not-up_to.false, ← c.up_to-2.ensures, c.if-not-up_to-2.false) c.up_to-3.ensures

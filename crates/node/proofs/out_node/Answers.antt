@@ -25,7 +25,7 @@ unfolding node_bytes
 returns-then-write c =
     let n = c.narrow_all in
     let floats = c.node_floats-floats.ensures in
-    let fine = not-false _ c.if-not-narrow_all.false-raw in
+    let fine = c.if-not-narrow_all.false in
     let small = n.ensures.is ∙ ap (λ (l : List Float). not (any_large l)) floats in
     let words = n.ensures.written fine ∙ ap float_words floats in (
       sym fine ∙ small,

@@ -31,7 +31,7 @@ returns-then-not-u c =
       c.if-abs.false,
       ← c.sub-s.ensures,
       ← c.dot.ensures,
-      not-true (le zero64 u) c.if-not-u.true-raw,
+      c.if-not-u.true,
     )
 
 pub returns-then-not-u-2 : goal.returns-then-not-u-2
@@ -47,8 +47,8 @@ returns-then-not-u-2 c =
       c.if-abs.false,
       ← c.sub-s.ensures,
       ← c.dot.ensures,
-      not-false (le zero64 u) c.if-not-u.false-raw,
-      not-true (le u one64) c.if-not-u-2.true-raw,
+      c.if-not-u.false,
+      c.if-not-u-2.true,
     )
 
 pub returns-then-v : goal.returns-then-v
@@ -64,8 +64,8 @@ returns-then-v c =
       c.if-abs.false,
       ← c.sub-s.ensures,
       ← c.dot.ensures,
-      not-false (le zero64 u) c.if-not-u.false-raw,
-      not-false (le u one64) c.if-not-u-2.false-raw,
+      c.if-not-u.false,
+      c.if-not-u-2.false,
       ← c.cross-q.ensures,
       ← c.dot-2.ensures,
       c.if-v.true,
@@ -84,8 +84,8 @@ returns-then-u-v c =
       c.if-abs.false,
       ← c.sub-s.ensures,
       ← c.dot.ensures,
-      not-false (le zero64 u) c.if-not-u.false-raw,
-      not-false (le u one64) c.if-not-u-2.false-raw,
+      c.if-not-u.false,
+      c.if-not-u-2.false,
       ← c.cross-q.ensures,
       ← c.dot-2.ensures,
       c.if-v.false,
@@ -106,14 +106,14 @@ returns-then-not-distance c =
       c.if-abs.false,
       ← c.sub-s.ensures,
       ← c.dot.ensures,
-      not-false (le zero64 u) c.if-not-u.false-raw,
-      not-false (le u one64) c.if-not-u-2.false-raw,
+      c.if-not-u.false,
+      c.if-not-u-2.false,
       ← c.cross-q.ensures,
       ← c.dot-2.ensures,
       c.if-v.false,
       c.if-u-v.false,
       ← c.dot-3.ensures,
-      not-true (lt eps distance) c.if-not-distance.true-raw,
+      c.if-not-distance.true,
     )
 
 pub returns : goal.returns
@@ -130,12 +130,12 @@ returns c =
       c.if-abs.false,
       ← c.sub-s.ensures,
       ← c.dot.ensures,
-      not-false (le zero64 u) c.if-not-u.false-raw,
-      not-false (le u one64) c.if-not-u-2.false-raw,
+      c.if-not-u.false,
+      c.if-not-u-2.false,
       ← c.cross-q.ensures,
       ← c.dot-2.ensures,
       c.if-v.false,
       c.if-u-v.false,
       ← c.dot-3.ensures,
-      not-false (lt eps distance) c.if-not-distance.false-raw,
+      c.if-not-distance.false,
     )

@@ -3,7 +3,7 @@ use borrow.Author.Tests.{not-true, not-false}
 use Rattle.mascon_grid.proofs.scaling.are_fine.Goals as goal
 
 pub returns-then-not-is_finite : goal.returns-then-not-is_finite
-returns-then-not-is_finite c = rw (← c.is_finite.ensures, not-true c.is_finite.result c.if-not-is_finite.true-raw)
+returns-then-not-is_finite c = rw (← c.is_finite.ensures, c.if-not-is_finite.true)
 
 pub returns : goal.returns
-returns c = rw (← c.is_finite.ensures, not-false c.is_finite.result c.if-not-is_finite.false-raw) c.is_finite-2.ensures
+returns c = rw (← c.is_finite.ensures, c.if-not-is_finite.false) c.is_finite-2.ensures

@@ -18,7 +18,7 @@ returns-then-not-are_fine c =
     let a = c.args in
     let loop = c.loop-i in
     let p = c.scaled_point-p in
-    let bad = sym c.are_fine.ensures ∙ not-true _ c.if-not-are_fine.true-raw in
+    let bad = sym c.are_fine.ensures ∙ c.if-not-are_fine.true in
     (scaling_stop a.out.now loop.out a.k a.l a.n loop.i p.result (omega arith) (p.ensures ∙ ap (scaled_point a.k a.l) c.point_at.ensures) loop.invariant.2 bad, λ e. absurd (true≢false (sym e)))
 
 pub loop-i-preserved : goal.loop-i-preserved
@@ -27,7 +27,7 @@ loop-i-preserved c =
     let loop = c.loop-i in
     let p = c.scaled_point-p in
     let wrote = c.out_point in
-    let good = sym c.are_fine.ensures ∙ not-false _ c.if-not-are_fine.false-raw in (
+    let good = sym c.are_fine.ensures ∙ c.if-not-are_fine.false in (
       omega arith,
       wrote.auto.file ∙ loop.invariant.1,
       scaling_turn a.out.now loop.out a.k a.l a.n loop.i p.result (omega arith) (p.ensures ∙ ap (scaled_point a.k a.l) c.point_at.ensures) loop.invariant.2 (omega arith) good wrote.new.file wrote.ensures,

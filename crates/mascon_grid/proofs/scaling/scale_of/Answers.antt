@@ -7,12 +7,12 @@ use Rattle.mascon_grid.proofs.scaling.scale_of.Goals as goal
 
 pub returns-then-not-target : goal.returns-then-not-target
 unfolding scale_of
-returns-then-not-target c = rw (not-true (lt zero64 c.args.target) c.if-not-target.true-raw)
+returns-then-not-target c = rw c.if-not-target.true
 
 pub returns-then-abs : goal.returns-then-abs
 unfolding scale_of
-returns-then-abs c = rw (not-false (lt zero64 c.args.target) c.if-not-target.false-raw, ← c.abs.ensures, c.if-abs.true)
+returns-then-abs c = rw (c.if-not-target.false, ← c.abs.ensures, c.if-abs.true)
 
 pub returns : goal.returns
 unfolding scale_of
-returns c = rw (not-false (lt zero64 c.args.target) c.if-not-target.false-raw, ← c.abs.ensures, c.if-abs.false)
+returns c = rw (c.if-not-target.false, ← c.abs.ensures, c.if-abs.false)

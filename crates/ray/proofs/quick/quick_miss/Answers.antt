@@ -62,7 +62,7 @@ returns-then-not-u c =
       ← c.number_at-4.ensures,
       ← c.abs.ensures,
       c.if-abs.false,
-      not-true (le zero64 u) c.if-not-u.true-raw,
+      c.if-not-u.true,
     )
 
 pub returns : goal.returns
@@ -86,5 +86,5 @@ returns c =
       ← c.number_at-4.ensures,
       ← c.abs.ensures,
       c.if-abs.false,
-      not-false (le zero64 u) c.if-not-u.false-raw,
+      c.if-not-u.false,
     )
