@@ -99,8 +99,8 @@ fn header_words(g: u32) -> [u32; 16]
 
 // The records of a row's cells, from byte `at` on: all have y and z.
 fn out_row(out: &mut [u8], at: usize, g: u32, row: u32)
-    requires g_nonzero { (0 < g) × (g ≤ 256) × (row < g * g) }
-    requires g_in_bounds { at + 16 * g ≤ length out.old }
+    requires in_grid { (0 < g) × (g ≤ 256) × (row < g * g) }
+    requires room { at + 16 * g ≤ length out.old }
     ensures { out.new ≡ splice out.old at (points_bytes (records_from g every_cell (row * g) g)) }
 {
     let y = row % g;
@@ -122,8 +122,8 @@ fn out_row(out: &mut [u8], at: usize, g: u32, row: u32)
 
 // The records of every cell, behind the header.
 fn out_rows(out: &mut [u8], g: u32)
-    requires g_nonzero { (0 < g) × (g ≤ 256) }
-    requires g_in_bounds { size (cube g) ≤ length out.old }
+    requires in_grid { (0 < g) × (g ≤ 256) }
+    requires room { size (cube g) ≤ length out.old }
     ensures { out.new ≡ splice out.old 64 (points_bytes (records g every_cell)) }
 {
     let rows = g * g;

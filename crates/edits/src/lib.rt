@@ -81,7 +81,7 @@ fn put_new(file: &mut [u8], journal: &mut [u32], c: u32, i: u32, p: Point) -> An
 
 fn put_cell(file: &mut [u8], journal: &mut [u32], c: u32, p: Point) -> Answer
     requires sound { Sound file.old journal.old × (push_cause journal.old ≡ 0) × (c < cube (grid file.old)) }
-    requires p_value { p ≡ cell_point (grid file.old) c (masses_of p) }
+    requires point { p ≡ cell_point (grid file.old) c (masses_of p) }
     ensures { outcome (told result) (both file.new journal.new) ≡ put_rest file.old journal.old c (masses_of p) }
 {
     let spot = find_cell(file, c);
@@ -208,7 +208,7 @@ fn undo_held(
     i: u32,
 ) -> Answer
     requires sound { Sound file.old journal.old × Last journal.old head cauchy elliptic × Spotted file.old (head % 16777216) (Held i) }
-    requires elliptic_value { entry_wrong (grid file.old) head cauchy elliptic ≡ false }
+    requires right { entry_wrong (grid file.old) head cauchy elliptic ≡ false }
     ensures { outcome (told result) (both file.new journal.new) ≡ undo_rest file.old journal.old }
 {
     let n = count(file);
@@ -237,7 +237,7 @@ fn undo_vacant(
     i: u32,
 ) -> Answer
     requires sound { Sound file.old journal.old × Last journal.old head cauchy elliptic × Spotted file.old (head % 16777216) (Vacant i) }
-    requires elliptic_value { entry_wrong (grid file.old) head cauchy elliptic ≡ false }
+    requires right { entry_wrong (grid file.old) head cauchy elliptic ≡ false }
     ensures { outcome (told result) (both file.new journal.new) ≡ undo_rest file.old journal.old }
 {
     let n = count(file);

@@ -15,8 +15,8 @@ use rym1::Cause;
 
 // Whether o lies inside the mesh, whose padded box is b.
 pub fn is_inside(s: &[u8], b: Bounds, o: Vec3, floats: &mut [f64]) -> bool
-    requires s_in_bounds { length s.now / 72 ≤ length floats.old }
-    requires s_value { good_triangles (mesh s.now) ≡ true }
+    requires room { length s.now / 72 ≤ length floats.old }
+    requires good { good_triangles (mesh s.now) ≡ true }
     ensures { result ≡ def.is_inside b (mesh s.now) o }
 {
     let at = indices(b, o);

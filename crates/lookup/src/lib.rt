@@ -26,8 +26,8 @@ pub fn clear(words: &mut [u32], n: usize)
 
 // Each record in file order: the later one counts.
 fn enter_points(words: &mut [u32], file: &[u8], g: u32, n: u32)
-    requires file_value { (file_cause file.now ≡ 0) × (g ≡ grid file.now) × (n ≡ count file.now) }
-    requires g_in_bounds { (cube g ≤ length words.old) × ((c : ℕ) → c < cube g → get_or words.old c 0 ≡ 0) }
+    requires accepted { (file_cause file.now ≡ 0) × (g ≡ grid file.now) × (n ≡ count file.now) }
+    requires cleared { (cube g ≤ length words.old) × ((c : ℕ) → c < cube g → get_or words.old c 0 ≡ 0) }
     ensures { Looked words.new file.now × (length words.new ≡ length words.old) }
 {
     let mut at: usize = 64;
@@ -52,8 +52,8 @@ pub fn cells(g: u32) -> usize
 
 // The whole lookup of a file that is not refused.
 fn fill_lookup(words: &mut [u32], file: &[u8])
-    requires file_value { file_cause file.now ≡ 0 }
-    requires file_in_bounds { cube (grid file.now) ≤ length words.old }
+    requires accepted { file_cause file.now ≡ 0 }
+    requires room { cube (grid file.now) ≤ length words.old }
     ensures { Looked words.new file.now × (length words.new ≡ length words.old) }
 {
     let g = grid(file);
@@ -79,8 +79,8 @@ fn count_marked(words: &[u32], n: usize) -> usize
 
 // The whole lookup; how many cells are occupied.
 pub fn fill_counted(words: &mut [u32], file: &[u8]) -> u32
-    requires file_value { file_cause file.now ≡ 0 }
-    requires file_in_bounds { cube (grid file.now) ≤ length words.old }
+    requires accepted { file_cause file.now ≡ 0 }
+    requires room { cube (grid file.now) ≤ length words.old }
     ensures { (result ≡ occupied file.now) × Looked words.new file.now × (length words.new ≡ length words.old) }
 {
     fill_lookup(words, file);

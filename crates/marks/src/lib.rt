@@ -18,8 +18,8 @@ pub fn room(g: u32) -> usize
 
 // Each record's mark. No two records name one cell, so a mark is added, and nothing is carried.
 fn enter_marks(words: &mut [u32], file: &[u8], g: u32, n: u32)
-    requires file_value { (file_cause file.now ≡ 0) × (work_cause file.now ≡ 0) × (g ≡ grid file.now) × (n ≡ count file.now) }
-    requires g_in_bounds { (2 * groups (cube g) ≤ length words.old) × ((k : ℕ) → k < 2 * groups (cube g) → get_or words.old k 0 ≡ 0) }
+    requires works { (file_cause file.now ≡ 0) × (work_cause file.now ≡ 0) × (g ≡ grid file.now) × (n ≡ count file.now) }
+    requires cleared { (2 * groups (cube g) ≤ length words.old) × ((k : ℕ) → k < 2 * groups (cube g) → get_or words.old k 0 ≡ 0) }
     ensures { Entered words.new file.now × (length words.new ≡ length words.old) }
 {
     let mut at: usize = 64;
@@ -35,9 +35,9 @@ fn enter_marks(words: &mut [u32], file: &[u8], g: u32, n: u32)
 
 // The running totals, of n pairs.
 fn enter_totals(words: &mut [u32], file: &[u8], n: usize)
-    requires file_value { file_cause file.now ≡ 0 }
+    requires accepted { file_cause file.now ≡ 0 }
     requires entered { Entered words.old file.now }
-    requires n_value { n ≡ groups (cube (grid file.now)) }
+    requires pairs { n ≡ groups (cube (grid file.now)) }
     ensures { Marked words.new file.now × (length words.new ≡ length words.old) }
 {
     let mut total: u32 = 0;
@@ -51,8 +51,8 @@ fn enter_totals(words: &mut [u32], file: &[u8], n: usize)
 
 // Marks and totals of a file in working form.
 pub fn fill_marks(words: &mut [u32], file: &[u8])
-    requires file_value { (file_cause file.now ≡ 0) × (work_cause file.now ≡ 0) }
-    requires file_in_bounds { 2 * groups (cube (grid file.now)) ≤ length words.old }
+    requires works { (file_cause file.now ≡ 0) × (work_cause file.now ≡ 0) }
+    requires room { 2 * groups (cube (grid file.now)) ≤ length words.old }
     ensures { Marked words.new file.now × (length words.new ≡ length words.old) }
 {
     let g = grid(file);
@@ -64,9 +64,9 @@ pub fn fill_marks(words: &mut [u32], file: &[u8])
 
 // How many occupied cells are below a cell, the total before its word plus the marks below it: in working form its index, if it is occupied.
 pub fn index_of(words: &[u32], file: &[u8], c: u32) -> u32
-    requires file_value { file_cause file.now ≡ 0 }
+    requires accepted { file_cause file.now ≡ 0 }
     requires marked { Marked words.now file.now }
-    requires c_bound { c < cube (grid file.now) }
+    requires in_grid { c < cube (grid file.now) }
     ensures { (result ≡ tally (mark file.now) 0 c) × (result ≤ c) }
 {
     let at = 2 * (c / 32) as usize;
@@ -77,7 +77,7 @@ pub fn index_of(words: &[u32], file: &[u8], c: u32) -> u32
 // How many of w cells from c on, all of one word, are occupied.
 fn count_within(words: &[u32], file: &[u8], c: u32, w: u32) -> u32
     requires entered { Entered words.now file.now }
-    requires c_bound { (c < cube (grid file.now)) × (0 < w) × (c % 32 + w ≤ 32) }
+    requires in_word { (c < cube (grid file.now)) × (0 < w) × (c % 32 + w ≤ 32) }
     ensures { (result ≡ tally (mark file.now) c w) × (result ≤ w) }
 {
     let mask = 2 * ((1u32 << (w - 1)) - 1) + 1;
@@ -90,9 +90,9 @@ fn count_within(words: &[u32], file: &[u8], c: u32, w: u32) -> u32
 
 // How many of w cells from c on are occupied, `index` being how many are below c.
 pub fn count_of(words: &[u32], file: &[u8], c: u32, w: u32, index: u32) -> u32
-    requires file_value { file_cause file.now ≡ 0 }
+    requires accepted { file_cause file.now ≡ 0 }
     requires marked { Marked words.now file.now }
-    requires w_nonzero { (0 < w) × (c + w ≤ cube (grid file.now)) × (index ≡ tally (mark file.now) 0 c) }
+    requires in_grid { (0 < w) × (c + w ≤ cube (grid file.now)) × (index ≡ tally (mark file.now) 0 c) }
     ensures { result ≡ tally (mark file.now) c w }
 {
     if c % 32 + w <= 32 {

@@ -91,7 +91,7 @@ fn fill_frame(
     out: &mut [u8],
 ) -> Answer
     requires ready { Ready triangles.now g floats.old out.old }
-    requires b_value { (b ≡ test_box (mesh triangles.now)) × (f ≡ def.frame (bounds (mesh triangles.now)) g) }
+    requires boxes { (b ≡ test_box (mesh triangles.now)) × (f ≡ def.frame (bounds (mesh triangles.now)) g) }
     ensures { outcome (told result) out.new
         ≡ filled (task g triangles.now cauchy.now elliptic.now target density) out.old }
 {

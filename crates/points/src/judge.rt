@@ -184,8 +184,8 @@ pub fn parse_mascon_bytes(file: &[u8]) -> Cause
 
 // Strictly ascending by cell number, each pad 0: of a file that is not refused.
 fn is_working(file: &[u8], g: u32, n: u32) -> bool
-    requires n_in_bounds { (size n ≤ length file.now) × (g ≤ 256) }
-    requires n_value { points_cause g (points_at file.now 64 n) ≡ 0 }
+    requires whole { (size n ≤ length file.now) × (g ≤ 256) }
+    requires right { points_cause g (points_at file.now 64 n) ≡ 0 }
     ensures { result ≡ working g 0 (points_at file.now 64 n) }
 {
     let mut at: usize = 64;

@@ -46,7 +46,7 @@ pub fn point_at(file: &[u8], at: usize) -> Point
 
 // The number of a cell of the grid.
 pub fn cell_number(g: u32, x: u32, y: u32, z: u32) -> u32
-    requires g_bound { g ≤ 256 }
+    requires grid_few { g ≤ 256 }
     requires inside { Inside g x y z }
     ensures { (result ≡ cell g x y z) × (result < cube g) }
 {

@@ -39,8 +39,8 @@ fn quick_miss(s: &[u8], at: usize, origin: Vec3) -> bool
 
 // Whether the triangle may be passed over; near: the point is within bounds.
 pub fn skips(s: &[u8], at: usize, origin: Vec3, near: bool) -> bool
-    requires at_in_bounds { (at + 72 ≤ length s.now) × (good_triangle (triangle s.now at) ≡ true) }
-    requires origin_value { near ≡ true → vector_up_to point_limit origin ≡ true }
+    requires good { (at + 72 ≤ length s.now) × (good_triangle (triangle s.now at) ≡ true) }
+    requires within { near ≡ true → vector_up_to point_limit origin ≡ true }
     ensures { result ≡ true → ray origin (triangle s.now at) ≡ Miss }
 {
     if !near {
@@ -51,8 +51,8 @@ pub fn skips(s: &[u8], at: usize, origin: Vec3, near: bool) -> bool
 
 // Whether the triangle may be passed over at every point with these y and z; near: both are within bounds.
 pub fn skips_row(s: &[u8], at: usize, y: f64, z: f64, near: bool) -> bool
-    requires at_in_bounds { (at + 72 ≤ length s.now) × (good_triangle (triangle s.now at) ≡ true) }
-    requires y_value { near ≡ true → (up_to point_limit y ≡ true) × (up_to point_limit z ≡ true) }
+    requires good { (at + 72 ≤ length s.now) × (good_triangle (triangle s.now at) ≡ true) }
+    requires within { near ≡ true → (up_to point_limit y ≡ true) × (up_to point_limit z ≡ true) }
     ensures { result ≡ true → (near ≡ true)
         × ((x : Float) → up_to point_limit x ≡ true → ray (vec x y z) (triangle s.now at) ≡ Miss) }
 {

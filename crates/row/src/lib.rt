@@ -87,9 +87,9 @@ fn entry(
     counts: &mut [u64],
     len: usize,
 )
-    requires i_in_bounds { (72 * i + 72 ≤ length s.now) × (good_triangle (def.triangle_of s.now i) ≡ true)
+    requires good { (72 * i + 72 ≤ length s.now) × (good_triangle (def.triangle_of s.now i) ≡ true)
         × (near ≡ true → note.Near y z xs.now) × note.Indexed b xs.now ix.now }
-    requires xs_in_bounds { (length xs.now ≤ length ix.now) × (length xs.now ≤ length counts.old) × (length xs.now * len ≤ length fl.old)
+    requires room { (length xs.now ≤ length ix.now) × (length xs.now ≤ length counts.old) × (length xs.now * len ≤ length fl.old)
         × ((q : ℕ) → q < length xs.now → get_or counts.old q 0 < len) }
     ensures { (length fl.new ≡ length fl.old)
         × (length counts.new ≡ length counts.old)
@@ -118,10 +118,10 @@ pub fn pass(
     fl: &mut [f64],
     counts: &mut [u64],
 ) -> usize
-    requires by_index { ((t : ℕ) → t < length list.now
+    requires good { ((t : ℕ) → t < length list.now
         → (72 * get_or list.now t 0 + 72 ≤ length s.now) × (good_triangle (def.triangle_of s.now (get_or list.now t 0)) ≡ true))
         × (near ≡ true → note.Near y z xs.now) × note.Indexed b xs.now ix.now }
-    requires xs_in_bounds { (length xs.now ≤ length ix.now) × (length xs.now ≤ length counts.old)
+    requires room { (length xs.now ≤ length ix.now) × (length xs.now ≤ length counts.old)
         × (length xs.now * length list.now ≤ length fl.old) × ((q : ℕ) → get_or counts.old q 0 ≡ 0) }
     ensures { (result ≡ length list.now)
         × (length fl.new ≡ length fl.old)
@@ -177,10 +177,10 @@ pub fn row_answers(
     fl: &mut [f64],
     out: &mut [u8],
 ) -> usize
-    requires by_index { ((t : ℕ) → t < length list.now
+    requires good { ((t : ℕ) → t < length list.now
         → (72 * get_or list.now t 0 + 72 ≤ length s.now) × (good_triangle (def.triangle_of s.now (get_or list.now t 0)) ≡ true))
         × (near ≡ true → note.Near y z xs.now) × note.Indexed b xs.now ix.now }
-    requires list_value { (list.now ≡ def.row_list s.now b (length s.now / 72) (def.row_pair b y z)) × (length xs.now ≤ 256) × (length xs.now ≤ length ix.now)
+    requires list_is { (list.now ≡ def.row_list s.now b (length s.now / 72) (def.row_pair b y z)) × (length xs.now ≤ 256) × (length xs.now ≤ length ix.now)
         × (length xs.now * length list.now ≤ length fl.old) × (length xs.now ≤ length out.old) }
     ensures { (result ≡ length list.now)
         × ((q : ℕ) → q < length xs.now → get_or out.new q 0 ≡ yes (is_inside b (mesh s.now) (note.point_of y z xs.now q)))
@@ -222,9 +222,9 @@ pub fn listed_answers(
     fl: &mut [f64],
     out: &mut [u8],
 ) -> usize
-    requires s_value { (good_triangles (mesh s.now) ≡ true) × (near ≡ true → note.Near y z xs.now) × note.Indexed b xs.now ix.now }
+    requires good { (good_triangles (mesh s.now) ≡ true) × (near ≡ true → note.Near y z xs.now) × note.Indexed b xs.now ix.now }
     requires listed { Listed s.now b (length s.now / 72) offsets.now words.now }
-    requires xs_len_bound { (length xs.now ≤ 256) × (length xs.now ≤ length ix.now)
+    requires room { (length xs.now ≤ 256) × (length xs.now ≤ length ix.now)
         × (length xs.now * length (def.row_list s.now b (length s.now / 72) (def.row_pair b y z)) ≤ length fl.old) × (length xs.now ≤ length out.old) }
     ensures { (result ≡ length (def.row_list s.now b (length s.now / 72) (def.row_pair b y z)))
         × ((q : ℕ) → q < length xs.now → get_or out.new q 0 ≡ yes (is_inside b (mesh s.now) (note.point_of y z xs.now q)))
@@ -245,7 +245,7 @@ pub fn is_inside_listed(
     words: &[u32],
     floats: &mut [f64],
 ) -> bool
-    requires s_value { (good_triangles (mesh s.now) ≡ true) × (length s.now / 72 ≤ length floats.old) }
+    requires good { (good_triangles (mesh s.now) ≡ true) × (length s.now / 72 ≤ length floats.old) }
     requires listed { Listed s.now b (length s.now / 72) offsets.now words.now }
     ensures { result ≡ is_inside b (mesh s.now) o }
 {

@@ -44,8 +44,8 @@ pub fn room(form: Form, g: u32) -> usize
 
 // The lookup of a file, in its form; how many cells are occupied.
 pub fn fill(words: &mut [u32], file: &[u8], form: Form) -> u32
-    requires file_value { (file_cause file.now ≡ 0) × (form ≡ form_of file.now) }
-    requires file_in_bounds { room_of form (grid file.now) ≤ length words.old }
+    requires accepted { (file_cause file.now ≡ 0) × (form ≡ form_of file.now) }
+    requires room { room_of form (grid file.now) ≤ length words.old }
     ensures { (result ≡ occupied file.now) × Held form words.new file.now × (length words.new ≡ length words.old) }
 {
     match form {
@@ -68,7 +68,7 @@ pub struct Run {
 // By marks: all that is left of the row, where the search finds one.
 fn marked_run(words: &[u32], file: &[u8], g: u32, z: u32, y: u32, x: u32, x1: u32) -> Run
     requires ready { Ready Marks words.now file.now g }
-    requires x_lt_x1 { (x < x1) × (x1 ≤ g) × (y < g) × (z < g) }
+    requires in_grid { (x < x1) × (x1 ≤ g) × (y < g) × (z < g) }
     ensures { Ran file.now g z y x x1 result }
 {
     let c = cell_number(g, x, y, z);
@@ -92,7 +92,7 @@ fn marked_run(words: &[u32], file: &[u8], g: u32, z: u32, y: u32, x: u32, x1: u3
 // By words: the cell's point, if there is one.
 fn worded_run(words: &[u32], file: &[u8], g: u32, z: u32, y: u32, x: u32, x1: u32) -> Run
     requires ready { Ready Words words.now file.now g }
-    requires x_lt_x1 { (x < x1) × (x1 ≤ g) × (y < g) × (z < g) }
+    requires in_grid { (x < x1) × (x1 ≤ g) × (y < g) × (z < g) }
     ensures { Ran file.now g z y x x1 result }
 {
     let word = words[cell_number(g, x, y, z) as usize];
@@ -122,7 +122,7 @@ pub fn next_run(
     x1: u32,
 ) -> Run
     requires ready { Ready form words.now file.now g }
-    requires x_lt_x1 { (x < x1) × (x1 ≤ g) × (y < g) × (z < g) }
+    requires in_grid { (x < x1) × (x1 ≤ g) × (y < g) × (z < g) }
     ensures { Ran file.now g z y x x1 result }
 {
     match form {

@@ -29,8 +29,8 @@ fn act(case: &[u8], at: usize, file: &mut [u8], journal: &mut [u32]) -> u64
 
 // Makes the case's calls one after the other.
 fn is_same_history(case: &[u8], calls: usize, file: &mut [u8], journal: &mut [u32]) -> bool
-    requires in_bounds { (8192 ≤ length case.now) × (calls ≤ 24) }
-    requires file_len_bound { (length file.old ≤ 1024) × (length journal.old ≤ 64) }
+    requires whole { (8192 ≤ length case.now) × (calls ≤ 24) }
+    requires few { (length file.old ≤ 1024) × (length journal.old ≤ 64) }
 {
     copy_bytes(file, case, 64);
     copy_words(journal, case, 1088);

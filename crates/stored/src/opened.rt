@@ -15,8 +15,8 @@ fn is_same_open(
     out: &mut [u8],
     journal: &mut [u32],
 ) -> bool
-    requires in_bounds { (4096 ≤ length case.now) × (file ≤ 1024) }
-    requires out_len_bound { (length out.old ≤ 1024) × (length journal.old ≤ 64) }
+    requires whole { (4096 ≤ length case.now) × (file ≤ 1024) }
+    requires few { (length out.old ≤ 1024) × (length journal.old ≤ 64) }
 {
     copy_bytes(out, case, 1088);
     copy_words(journal, case, 3136);

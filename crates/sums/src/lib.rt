@@ -81,8 +81,8 @@ fn mass_at(file: &[u8], at: usize) -> f64
 
 // The sums with k records on end, from record i on, which lie in row y, z.
 fn add_records(file: &[u8], s: Sums, z: u32, y: u32, i: u32, k: u32) -> Sums
-    requires file_value { file_cause file.now ≡ 0 }
-    requires k_bound { (i + k ≤ count file.now) × (s.count + k < 4294967296) }
+    requires accepted { file_cause file.now ≡ 0 }
+    requires room { (i + k ≤ count file.now) × (s.count + k < 4294967296) }
     ensures { result ≡ total s (placed file.now z y i k) }
 {
     let mut t = s;
@@ -112,9 +112,9 @@ fn visit_row(
 ) -> Sums
     requires ready { Ready form words.now file.now g }
     requires within { Within g b }
-    requires y_lt_g { (y < g) × (z < g) × (s.count ≤ 2147483648) }
+    requires in_grid { (y < g) × (z < g) × (s.count ≤ 2147483648) }
     ensures value { result ≡ total s (row (look file.now) g b z y) }
-    ensures count_bound { result.count ≤ s.count + 256 }
+    ensures few { result.count ≤ s.count + 256 }
 {
     let mut t = s;
     let mut x = b.x0;
@@ -131,9 +131,9 @@ fn visit_row(
 fn visit_plane(words: &[u32], file: &[u8], form: Form, g: u32, b: Cells, z: u32, s: Sums) -> Sums
     requires ready { Ready form words.now file.now g }
     requires within { Within g b }
-    requires z_lt_g { (z < g) × (s.count ≤ 1073741824) }
+    requires in_grid { (z < g) × (s.count ≤ 1073741824) }
     ensures value { result ≡ total s (plane (look file.now) g b z) }
-    ensures count_bound { result.count ≤ s.count + 65536 }
+    ensures few { result.count ≤ s.count + 65536 }
 {
     let mut t = s;
     let mut y = b.y0;
@@ -150,7 +150,7 @@ pub fn sums_of(words: &[u32], file: &[u8], form: Form, g: u32, b: Cells) -> Sums
     requires ready { Ready form words.now file.now g }
     requires within { Within g b }
     ensures value { result ≡ sums_of (look file.now) g b }
-    ensures count_value { result.count ≡ length (visit (look file.now) g b) }
+    ensures counted { result.count ≡ length (visit (look file.now) g b) }
 {
     let mut t = nothing();
     let mut z = b.z0;

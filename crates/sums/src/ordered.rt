@@ -40,7 +40,7 @@ fn out_row(
 ) -> usize
     requires ready { Ready form words.now file.now g }
     requires within { Within g b }
-    requires y_lt_g { (y < g) × (z < g) }
+    requires in_grid { (y < g) × (z < g) }
     requires room { Room out.old from (row (look file.now) g b z y) }
     ensures { Ordered out.old from (row (look file.now) g b z y) out.new result }
 {
@@ -68,7 +68,7 @@ fn out_plane(
 ) -> usize
     requires ready { Ready form words.now file.now g }
     requires within { Within g b }
-    requires z_lt_g { z < g }
+    requires in_grid { z < g }
     requires room { Room out.old from (plane (look file.now) g b z) }
     ensures { Ordered out.old from (plane (look file.now) g b z) out.new result }
 {

@@ -77,8 +77,8 @@ fn add_cell(
     w: Found,
     out: &mut [u8],
 ) -> Found
-    requires g_nonzero { (0 < g) × (w.count < 16777216) × (64 + 16 * w.count + 16 ≤ length out.old) }
-    requires p_value { p ≡ def.middle f g c }
+    requires room { (0 < g) × (w.count < 16777216) × (64 + 16 * w.count + 16 ≤ length out.old) }
+    requires middle { p ≡ def.middle f g c }
     ensures value { result ≡ with_cell f g (kernels cauchy.now) (kernels elliptic.now) w c }
     ensures out_after { out.new ≡ cond (fine (raw_point f g (kernels cauchy.now) (kernels elliptic.now) c))
         (splice out.old (64 + 16 * w.count) (point_bytes (raw_point f g (kernels cauchy.now) (kernels elliptic.now) c))) out.old }
@@ -118,7 +118,7 @@ pub fn visit_cells(
     out: &mut [u8],
 ) -> Visit
     requires ready { Ready triangles.now g floats.old out.old }
-    requires b_value { b ≡ test_box (mesh triangles.now) }
+    requires box_is { b ≡ test_box (mesh triangles.now) }
     ensures { Visiting f g (kernels cauchy.now) (kernels elliptic.now)
         (inner (mesh triangles.now) f g) out.old result out.new }
 {

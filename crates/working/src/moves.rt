@@ -41,8 +41,8 @@ fn move_down(file: &mut [u8], to: usize, k: usize)
 
 // A record arrives at index i.
 pub fn insert_point(file: &mut [u8], i: u32, p: Point)
-    requires i_bound { (i ≤ count file.old) × (count file.old < 4294967295) }
-    requires file_in_bounds { size (suc (count file.old)) ≤ length file.old }
+    requires in_order { (i ≤ count file.old) × (count file.old < 4294967295) }
+    requires room { size (suc (count file.old)) ≤ length file.old }
     ensures { file.new ≡ inserted file.old i (point_bytes p) }
 {
     let n = count(file);

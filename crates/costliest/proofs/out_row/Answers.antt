@@ -6,10 +6,10 @@ use Rattle.costliest.proofs.Written.{run_start, row_turn, length_run}
 use Rattle.costliest.proofs.out_row.Goals as goal
 
 pub nonzero_rem-y : goal.nonzero_rem-y
-nonzero_rem-y c = c.requires.g_nonzero.0
+nonzero_rem-y c = c.requires.in_grid.0
 
 pub nonzero_div-z : goal.nonzero_div-z
-nonzero_div-z c = c.requires.g_nonzero.0
+nonzero_div-z c = c.requires.in_grid.0
 
 pub loop-x-init : goal.loop-x-init
 loop-x-init c = (omega arith, run_start _ _ _ _)
@@ -23,7 +23,7 @@ out_point-requires c =
 pub loop-x-preserved : goal.loop-x-preserved
 loop-x-preserved c =
     let l = c.loop-x in
-    (omega arith, row_turn _ _ _ c.args.at c.args.g c.args.row l.x (c.args.at + 16 * l.x) (omega arith) refl c.requires.g_in_bounds l.invariant.1 c.out_point.ensures)
+    (omega arith, row_turn _ _ _ c.args.at c.args.g c.args.row l.x (c.args.at + 16 * l.x) (omega arith) refl c.requires.room l.invariant.1 c.out_point.ensures)
 
 pub shape_of-out : goal.shape_of-out
 shape_of-out c =

@@ -39,7 +39,7 @@ out_rows-requires c =
     let args = c.args in
     let k = c.cells in
     let header = c.out_words.ensures ∙ ap (splice _ 0) c.header_words.ensures in
-    record { g_nonzero = grid_right args.g ok; g_in_bounds = header_room args.g args.out.now k.result ok k.ensures.0 c.if-out-length.false _ header }
+    record { in_grid = grid_right args.g ok; room = header_room args.g args.out.now k.result ok k.ensures.0 c.if-out-length.false _ header }
 
 pub returns : goal.returns
 unfolding told

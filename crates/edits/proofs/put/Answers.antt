@@ -62,7 +62,7 @@ cell_number-requires c =
     let own = c.point_cause-own in
     let g = c.grid-g in
     let fine = none_found _ own.result own.ensures c.is_refused-2.ensures c.if-is_refused-2.false in
-    let held = own_inside f j c.args.x c.args.y c.args.z _ _ ok g.result a.result b.result g.ensures a.ensures b.ensures fine in record { g_bound = held.0; inside = held.1 }
+    let held = own_inside f j c.args.x c.args.y c.args.z _ _ ok g.result a.result b.result g.ensures a.ensures b.ensures fine in record { grid_few = held.0; inside = held.1 }
 
 pub put_cell-requires : goal.put_cell-requires
 put_cell-requires c =
@@ -78,7 +78,7 @@ put_cell-requires c =
     let full = c.push_cause-full in
     let free = none_found _ full.result full.ensures c.is_refused-3.ensures c.if-is_refused-3.false in
     let here = own_cell f j c.args.x c.args.y c.args.z _ _ ok g.result a.result b.result g.ensures a.ensures b.ensures fine c.cell_number.result c.cell_number.ensures.0 c.cell_number.ensures.1 in
-    record { sound = (buffers_sound f j ok, free, here.0); p_value = here.1 }
+    record { sound = (buffers_sound f j ok, free, here.0); point = here.1 }
 
 pub returns : goal.returns
 returns c =

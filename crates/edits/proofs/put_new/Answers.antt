@@ -19,7 +19,7 @@ returns-then-file-n c =
 pub insert_point-requires : goal.insert_point-requires
 insert_point-requires c =
     let n = c.count-n in
-    let f = c.args.file.now in record { i_bound = (c.requires.spotted.0.0, omega (arith, count_few f c.requires.sound.0.file c.requires.sound.0.works)); file_in_bounds = room_more f n.result n.ensures c.if-file-n.false }
+    let f = c.args.file.now in record { in_order = (c.requires.spotted.0.0, omega (arith, count_few f c.requires.sound.0.file c.requires.sound.0.works)); room = room_more f n.result n.ensures c.if-file-n.false }
 
 pub overflow_add-c : goal.overflow_add-c
 overflow_add-c c =

@@ -36,7 +36,7 @@ cell_number-requires c =
     let same : number c.place_cause-place.result ≡ place_cause (grid c.args.file.now) c.args.x c.args.y c.args.z = place_judged c.args.file.now _ _ _ _ _ c.place_cause-place.ensures (omega (arith, c.grid-g.ensures)) in
     let placed : place_cause (grid c.args.file.now) c.args.x c.args.y c.args.z ≡ 0 = none_found _ c.place_cause-place.result same c.is_refused-2.ensures c.if-is_refused-2.false in
     let g = c.grid-g in
-    record { g_bound = rw g.ensures (accepted _ buffers.file).grid_few; inside = rw g.ensures (inside _ _ _ _ placed) }
+    record { grid_few = rw g.ensures (accepted _ buffers.file).grid_few; inside = rw g.ensures (inside _ _ _ _ placed) }
 
 pub remove_cell-requires : goal.remove_cell-requires
 remove_cell-requires c =

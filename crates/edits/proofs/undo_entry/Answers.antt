@@ -24,11 +24,11 @@ undo_held-requires c =
     let find = c.find_cell-spot in
     let wrong = c.is_entry_wrong in
     let g = c.grid in
-    record { sound = (c.requires.0, c.requires.1, rw c.in-Held.is at find.ensures); elliptic_value = tested (λ (n : ℕ). entry_wrong n c.args.head c.args.cauchy c.args.elliptic) wrong.ensures g.ensures c.if-is_entry_wrong.false }
+    record { sound = (c.requires.0, c.requires.1, rw c.in-Held.is at find.ensures); right = tested (λ (n : ℕ). entry_wrong n c.args.head c.args.cauchy c.args.elliptic) wrong.ensures g.ensures c.if-is_entry_wrong.false }
 
 pub undo_vacant-requires : goal.undo_vacant-requires
 undo_vacant-requires c =
     let find = c.find_cell-spot in
     let wrong = c.is_entry_wrong in
     let g = c.grid in
-    record { sound = (c.requires.0, c.requires.1, rw c.in-Vacant.is at find.ensures); elliptic_value = tested (λ (n : ℕ). entry_wrong n c.args.head c.args.cauchy c.args.elliptic) wrong.ensures g.ensures c.if-is_entry_wrong.false }
+    record { sound = (c.requires.0, c.requires.1, rw c.in-Vacant.is at find.ensures); right = tested (λ (n : ℕ). entry_wrong n c.args.head c.args.cauchy c.args.elliptic) wrong.ensures g.ensures c.if-is_entry_wrong.false }

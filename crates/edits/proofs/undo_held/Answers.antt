@@ -11,7 +11,7 @@ count-n-requires c =
 
 pub returns-then-kind-eq3 : goal.returns-then-kind-eq3
 returns-then-kind-eq3 c =
-    way_held c.args.file.now c.args.journal.now c.args.head c.args.cauchy c.args.elliptic c.args.i c.requires.sound.0 c.requires.sound.1 c.requires.elliptic_value c.requires.sound.2 c.if-kind-eq3.true
+    way_held c.args.file.now c.args.journal.now c.args.head c.args.cauchy c.args.elliptic c.args.i c.requires.sound.0 c.requires.sound.1 c.requires.right c.requires.sound.2 c.if-kind-eq3.true
 
 pub remove_point-requires : goal.remove_point-requires
 remove_point-requires c =
@@ -20,7 +20,7 @@ remove_point-requires c =
 pub returns-then-kind-eq1 : goal.returns-then-kind-eq1
 returns-then-kind-eq1 c =
     let n = c.count-n in
-    way_emptied c.args.file.now c.args.journal.now c.args.head c.args.cauchy c.args.elliptic c.args.i c.requires.sound.0 c.requires.sound.1 c.requires.elliptic_value c.requires.sound.2 n.result _ _ _ n.ensures c.pop.ensures c.if-kind-eq1.true c.remove_point.ensures c.length_of.ensures
+    way_emptied c.args.file.now c.args.journal.now c.args.head c.args.cauchy c.args.elliptic c.args.i c.requires.sound.0 c.requires.sound.1 c.requires.right c.requires.sound.2 n.result _ _ _ n.ensures c.pop.ensures c.if-kind-eq1.true c.remove_point.ensures c.length_of.ensures
 
 pub grid-requires : goal.grid-requires
 grid-requires c =
@@ -38,5 +38,5 @@ pub returns : goal.returns
 returns c =
     let g = c.grid in
     let n = c.count-n in
-    way_restored c.args.file.now c.args.journal.now c.args.head c.args.cauchy c.args.elliptic c.args.i c.requires.sound.0 c.requires.sound.1 c.requires.elliptic_value c.requires.sound.2 n.result _ _ _ n.ensures c.pop-2.ensures c.ranges.head.fits c.if-kind-eq3.false c.if-kind-eq1.false g.result c.cell_point-p.result
+    way_restored c.args.file.now c.args.journal.now c.args.head c.args.cauchy c.args.elliptic c.args.i c.requires.sound.0 c.requires.sound.1 c.requires.right c.requires.sound.2 n.result _ _ _ n.ensures c.pop-2.ensures c.ranges.head.fits c.if-kind-eq3.false c.if-kind-eq1.false g.result c.cell_point-p.result
     g.ensures c.cell_point-p.ensures c.out_point.ensures c.length_of-2.ensures

@@ -12,12 +12,12 @@ count-n-requires c =
 
 pub returns-then-head-ne3 : goal.returns-then-head-ne3
 returns-then-head-ne3 c =
-    way_vacant c.args.file.now c.args.journal.now c.args.head c.args.cauchy c.args.elliptic c.args.i c.requires.sound.0 c.requires.sound.1 c.requires.elliptic_value c.requires.sound.2 c.ranges.head.fits c.if-head-ne3.true
+    way_vacant c.args.file.now c.args.journal.now c.args.head c.args.cauchy c.args.elliptic c.args.i c.requires.sound.0 c.requires.sound.1 c.requires.right c.requires.sound.2 c.ranges.head.fits c.if-head-ne3.true
 
 pub returns-then-file-n : goal.returns-then-file-n
 returns-then-file-n c =
     let n = c.count-n in
-    way_full c.args.file.now c.args.journal.now c.args.head c.args.cauchy c.args.elliptic c.args.i c.requires.sound.0 c.requires.sound.1 c.requires.elliptic_value c.requires.sound.2 c.if-head-ne3.false n.result n.ensures c.if-file-n.true
+    way_full c.args.file.now c.args.journal.now c.args.head c.args.cauchy c.args.elliptic c.args.i c.requires.sound.0 c.requires.sound.1 c.requires.right c.requires.sound.2 c.if-head-ne3.false n.result n.ensures c.if-file-n.true
 
 pub cell_point-p-requires : goal.cell_point-p-requires
 cell_point-p-requires c =
@@ -27,7 +27,7 @@ pub insert_point-requires : goal.insert_point-requires
 insert_point-requires c =
     let n = c.count-n in
     let few = count_few c.args.file.now c.requires.sound.0.file c.requires.sound.0.works in
-    record { i_bound = (c.requires.sound.2.0, omega (arith, few)); file_in_bounds = room_more c.args.file.now n.result n.ensures c.if-file-n.false }
+    record { in_order = (c.requires.sound.2.0, omega (arith, few)); room = room_more c.args.file.now n.result n.ensures c.if-file-n.false }
 
 pub overflow_add-n-2 : goal.overflow_add-n-2
 overflow_add-n-2 c =
@@ -38,5 +38,5 @@ pub returns : goal.returns
 returns c =
     let g = c.grid in
     let n = c.count-n in
-    way_back c.args.file.now c.args.journal.now c.args.head c.args.cauchy c.args.elliptic c.args.i c.requires.sound.0 c.requires.sound.1 c.requires.elliptic_value c.requires.sound.2 c.if-head-ne3.false n.result n.ensures c.if-file-n.false g.result _ c.cell_point-p.result _ _
+    way_back c.args.file.now c.args.journal.now c.args.head c.args.cauchy c.args.elliptic c.args.i c.requires.sound.0 c.requires.sound.1 c.requires.right c.requires.sound.2 c.if-head-ne3.false n.result n.ensures c.if-file-n.false g.result _ c.cell_point-p.result _ _
     g.ensures c.cell_point-p.ensures c.insert_point.ensures c.pop.ensures c.length_of.ensures

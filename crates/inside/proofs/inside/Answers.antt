@@ -34,7 +34,7 @@ returns-then-floats-s c = (
 )
 
 pub is_inside-requires : goal.is_inside-requires
-is_inside-requires c = record { s_in_bounds = search rules; s_value = mesh_good c.args.s.now (sym c.mesh_wrong.ensures ∙ c.if-mesh_wrong.false) }
+is_inside-requires c = record { room = search rules; good = mesh_good c.args.s.now (sym c.mesh_wrong.ensures ∙ c.if-mesh_wrong.false) }
 
 pub returns-then-is_inside : goal.returns-then-is_inside
 unfolding side_number

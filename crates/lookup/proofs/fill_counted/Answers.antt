@@ -7,10 +7,10 @@ use Rattle.lookup.proofs.Words.{occupied_is}
 use Rattle.lookup.proofs.fill_counted.Goals as goal
 
 pub grid-requires : goal.grid-requires
-grid-requires c = (accepted _ c.requires.file_value).long
+grid-requires c = (accepted _ c.requires.accepted).long
 
 pub cells-requires : goal.cells-requires
-cells-requires c = rw c.grid.ensures (accepted _ c.requires.file_value).grid_few
+cells-requires c = rw c.grid.ensures (accepted _ c.requires.accepted).grid_few
 
 pub count_marked-requires : goal.count_marked-requires
 count_marked-requires c = omega (arith, c.cells.ensures.0 ∙ ap cube c.grid.ensures, c.fill_lookup.ensures.0.room)

@@ -21,10 +21,10 @@ few : (f : List ℕ) → file_cause f ≡ 0 → cube (grid f) ≤ 16777216
 few f ok = cube_few (grid f) (accepted f ok).grid_few
 
 pub overflow_add-c : goal.overflow_add-c
-overflow_add-c c = let h = few c.args.file.now c.requires.file_value in record { fits = omega (arith, h) }
+overflow_add-c c = let h = few c.args.file.now c.requires.accepted in record { fits = omega (arith, h) }
 
 pub overflow_add-last : goal.overflow_add-last
-overflow_add-last c = let h = few c.args.file.now c.requires.file_value in record { fits = omega (arith, h) }
+overflow_add-last c = let h = few c.args.file.now c.requires.accepted in record { fits = omega (arith, h) }
 
 pub bounds-words-last : goal.bounds-words-last
 bounds-words-last c =
@@ -33,15 +33,15 @@ bounds-words-last c =
 pub overflow_add-result : goal.overflow_add-result
 overflow_add-result c =
     let f = c.args.file.now in
-    let sum = through c.args.words.now f c.requires.marked c.args.c c.args.w c.count_within-2.result c.requires.w_nonzero.0 c.requires.w_nonzero.1 c.count_within-2.ensures.0 in
-    record { fits = omega (arith, sum, tally_few f 0 c.args.c, tally_few f c.args.c c.args.w, few f c.requires.file_value) }
+    let sum = through c.args.words.now f c.requires.marked c.args.c c.args.w c.count_within-2.result c.requires.in_grid.0 c.requires.in_grid.1 c.count_within-2.ensures.0 in
+    record { fits = omega (arith, sum, tally_few f 0 c.args.c, tally_few f c.args.c c.args.w, few f c.requires.accepted) }
 
 pub overflow_sub-result : goal.overflow_sub-result
 overflow_sub-result c =
-    let sum = through c.args.words.now c.args.file.now c.requires.marked c.args.c c.args.w c.count_within-2.result c.requires.w_nonzero.0 c.requires.w_nonzero.1 c.count_within-2.ensures.0 in
-    omega (arith, sum, c.requires.w_nonzero.2)
+    let sum = through c.args.words.now c.args.file.now c.requires.marked c.args.c c.args.w c.count_within-2.result c.requires.in_grid.0 c.requires.in_grid.1 c.count_within-2.ensures.0 in
+    omega (arith, sum, c.requires.in_grid.2)
 
 pub returns : goal.returns
 returns c =
-    let sum = through c.args.words.now c.args.file.now c.requires.marked c.args.c c.args.w c.count_within-2.result c.requires.w_nonzero.0 c.requires.w_nonzero.1 c.count_within-2.ensures.0 in
-    omega (arith, sum, c.requires.w_nonzero.2)
+    let sum = through c.args.words.now c.args.file.now c.requires.marked c.args.c c.args.w c.count_within-2.result c.requires.in_grid.0 c.requires.in_grid.1 c.count_within-2.ensures.0 in
+    omega (arith, sum, c.requires.in_grid.2)

@@ -17,15 +17,15 @@ overflow_add-mask c = let h = half_word (c.args.w - 1) (omega arith) in record {
 
 pub bounds-words-c : goal.bounds-words-c
 bounds-words-c c =
-    omega (arith, group_of (cube (grid c.args.file.now)) c.args.c c.requires.c_bound.0, c.requires.entered.room)
+    omega (arith, group_of (cube (grid c.args.file.now)) c.args.c c.requires.in_word.0, c.requires.entered.room)
 
 pub returns-then-marks-mask : goal.returns-then-marks-mask
 returns-then-marks-mask c =
     let a = c.args in
-    (part_full a.words.now a.file.now c.requires.entered a.c a.w c.requires.c_bound.0 c.requires.c_bound.1 c.requires.c_bound.2 c.if-marks-mask.true, omega arith)
+    (part_full a.words.now a.file.now c.requires.entered a.c a.w c.requires.in_word.0 c.requires.in_word.1 c.requires.in_word.2 c.if-marks-mask.true, omega arith)
 
 pub returns : goal.returns
 returns c =
     let a = c.args in
-    let is = part_ones a.words.now a.file.now c.requires.entered a.c a.w c.requires.c_bound.0 c.requires.c_bound.1 c.requires.c_bound.2 in
+    let is = part_ones a.words.now a.file.now c.requires.entered a.c a.w c.requires.in_word.0 c.requires.in_word.1 c.requires.in_word.2 in
     (is, omega (arith, is, tally_few a.file.now a.c a.w))

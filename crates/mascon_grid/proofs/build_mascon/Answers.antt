@@ -52,7 +52,7 @@ pub fill_frame-requires : goal.fill_frame-requires
 fill_frame-requires c =
     let off = c.grid_cause-cause in
     let ok = none_found _ off.result off.ensures c.is_refused.ensures c.if-is_refused.false in
-    let args = c.args in record { ready = ready args.g _ _ _ args.target args.density _ _ ok c.lists_wrong.ensures c.if-lists_wrong.false c.if-floats-s.false _ c.capacity_of.ensures c.if-out-capacity_of.false; b_value = (c.padded-b.ensures ∙ ap padded c.bounds_of-bounds.ensures, c.frame_of-f.ensures ∙ ap (λ b. frame b args.g) c.bounds_of-bounds.ensures) }
+    let args = c.args in record { ready = ready args.g _ _ _ args.target args.density _ _ ok c.lists_wrong.ensures c.if-lists_wrong.false c.if-floats-s.false _ c.capacity_of.ensures c.if-out-capacity_of.false; boxes = (c.padded-b.ensures ∙ ap padded c.bounds_of-bounds.ensures, c.frame_of-f.ensures ∙ ap (λ b. frame b args.g) c.bounds_of-bounds.ensures) }
 
 pub returns : goal.returns
 returns c =

@@ -7,21 +7,21 @@ returns-in_default c =
     let a = c.args in
     let v = c.visit_cells-visit in
     let same = v.auto.out in
-    way_18 a.g _ _ _ a.target a.density a.f c.requires.b_value.1 _ _ v.ensures c.in_default.is same _ _ c.clear_refused.ensures.0 c.clear_refused.ensures.1
+    way_18 a.g _ _ _ a.target a.density a.f c.requires.boxes.1 _ _ v.ensures c.in_default.is same _ _ c.clear_refused.ensures.0 c.clear_refused.ensures.1
 
 pub returns-then-w : goal.returns-then-w
 returns-then-w c =
     let a = c.args in
     let v = c.visit_cells-visit in
     let same = v.auto.out in
-    way_large a.g _ _ _ a.target a.density a.f c.requires.b_value.1 _ _ v.ensures c.requires.ready _ c.in-Done.is same c.if-w.true _ _ c.clear_refused-then-w.ensures.0 c.clear_refused-then-w.ensures.1
+    way_large a.g _ _ _ a.target a.density a.f c.requires.boxes.1 _ _ v.ensures c.requires.ready _ c.in-Done.is same c.if-w.true _ _ c.clear_refused-then-w.ensures.0 c.clear_refused-then-w.ensures.1
 
 pub finish-requires : goal.finish-requires
 finish-requires c =
     let a = c.args in
     let v = c.visit_cells-visit in
     let same = v.auto.out in
-    finds_room a.g _ _ _ a.target a.density a.f c.requires.b_value.1 _ _ v.ensures c.requires.ready _ c.in-Done.is same c.if-w.false
+    finds_room a.g _ _ _ a.target a.density a.f c.requires.boxes.1 _ _ v.ensures c.requires.ready _ c.in-Done.is same c.if-w.false
 
 pub returns : goal.returns
 returns c =
@@ -29,4 +29,4 @@ returns c =
     let v = c.visit_cells-visit in
     let same = v.auto.out in
     let left = v.new.out in
-    way_finished a.g _ _ _ a.target a.density a.f c.requires.b_value.1 _ left v.ensures c.requires.ready _ c.in-Done.is same c.if-w.false c.finish.ensures
+    way_finished a.g _ _ _ a.target a.density a.f c.requires.boxes.1 _ left v.ensures c.requires.ready _ c.in-Done.is same c.if-w.false c.finish.ensures

@@ -38,13 +38,13 @@ pub out_empty-requires-clause-within : goal.out_empty-requires-clause-within
 out_empty-requires-clause-within t c =
     within_most c.args.set.g c.args.b (grid_few c.requires.ready) c.requires.within
 
-pub out_empty-requires-clause-node_in_bounds : goal.out_empty-requires-clause-node_in_bounds
-out_empty-requires-clause-node_in_bounds t c =
+pub out_empty-requires-clause-room : goal.out_empty-requires-clause-room
+out_empty-requires-clause-room t c =
     (node_room _ _ _ _ _ _ _ c.requires.space, node_low _ _ _ _ _ _ _ c.requires.space)
 
 pub out_leaf-requires-clause-space : goal.out_leaf-requires-clause-space
 out_leaf-requires-clause-space t c =
-    let k = kind_is (file.look c.args.file.now) c.args.set.g c.args.b _ _ c.sums_of-s.ensures.count_value c.kind_of-kind.ensures ∙ c.in-Leaf.is in
+    let k = kind_is (file.look c.args.file.now) c.args.set.g c.args.b _ _ c.sums_of-s.ensures.counted c.kind_of-kind.ensures ∙ c.in-Leaf.is in
     subst (λ (u : Tree). Space c.args.set.write c.args.out.now c.args.set.at c.args.node c.args.before c.args.set.frame u) (leaf_is _ _ _ _ c.sums_of-s.ensures.value k) c.requires.space
 
 pub overflow_add-node : goal.overflow_add-node
@@ -53,7 +53,7 @@ overflow_add-node t c =
 
 pub build_mascon_node-lower-requires : goal.build_mascon_node-lower-requires
 build_mascon_node-lower-requires t c =
-    let k = kind_is (file.look c.args.file.now) c.args.set.g c.args.b _ _ c.sums_of-s.ensures.count_value c.kind_of-kind.ensures ∙ c.in-Split.is in
+    let k = kind_is (file.look c.args.file.now) c.args.set.g c.args.b _ _ c.sums_of-s.ensures.counted c.kind_of-kind.ensures ∙ c.in-Split.is in
     let two = split_halves (file.look c.args.file.now) c.args.set.g c.args.b k c.requires.within in
     let h = c.halves-half in
     let tree = the_split (file.look c.args.file.now) c.args.set.g c.args.b h.result.low h.result.high c.sums_of-s.result c.requires.within c.sums_of-s.ensures.value k h.ensures.0 h.ensures.1 in
@@ -64,7 +64,7 @@ build_mascon_node-lower-requires t c =
 
 pub returns-in_default : goal.returns-in_default
 returns-in_default t c =
-    let k = kind_is (file.look c.args.file.now) c.args.set.g c.args.b _ _ c.sums_of-s.ensures.count_value c.kind_of-kind.ensures ∙ c.in-Split.is in
+    let k = kind_is (file.look c.args.file.now) c.args.set.g c.args.b _ _ c.sums_of-s.ensures.counted c.kind_of-kind.ensures ∙ c.in-Split.is in
     let two = split_halves (file.look c.args.file.now) c.args.set.g c.args.b k c.requires.within in
     let h = c.halves-half in
     let tree = the_split (file.look c.args.file.now) c.args.set.g c.args.b h.result.low h.result.high c.sums_of-s.result c.requires.within c.sums_of-s.ensures.value k h.ensures.0 h.ensures.1 in
@@ -74,7 +74,7 @@ returns-in_default t c =
 
 pub build_mascon_node-upper-requires : goal.build_mascon_node-upper-requires
 build_mascon_node-upper-requires t c =
-    let k = kind_is (file.look c.args.file.now) c.args.set.g c.args.b _ _ c.sums_of-s.ensures.count_value c.kind_of-kind.ensures ∙ c.in-Split.is in
+    let k = kind_is (file.look c.args.file.now) c.args.set.g c.args.b _ _ c.sums_of-s.ensures.counted c.kind_of-kind.ensures ∙ c.in-Split.is in
     let two = split_halves (file.look c.args.file.now) c.args.set.g c.args.b k c.requires.within in
     let h = c.halves-half in
     let tree = the_split (file.look c.args.file.now) c.args.set.g c.args.b h.result.low h.result.high c.sums_of-s.result c.requires.within c.sums_of-s.ensures.value k h.ensures.0 h.ensures.1 in
@@ -86,7 +86,7 @@ build_mascon_node-upper-requires t c =
 
 pub returns-in_default-upper : goal.returns-in_default-upper
 returns-in_default-upper t c =
-    let k = kind_is (file.look c.args.file.now) c.args.set.g c.args.b _ _ c.sums_of-s.ensures.count_value c.kind_of-kind.ensures ∙ c.in-Split.is in
+    let k = kind_is (file.look c.args.file.now) c.args.set.g c.args.b _ _ c.sums_of-s.ensures.counted c.kind_of-kind.ensures ∙ c.in-Split.is in
     let two = split_halves (file.look c.args.file.now) c.args.set.g c.args.b k c.requires.within in
     let h = c.halves-half in
     let tree = the_split (file.look c.args.file.now) c.args.set.g c.args.b h.result.low h.result.high c.sums_of-s.result c.requires.within c.sums_of-s.ensures.value k h.ensures.0 h.ensures.1 in
@@ -101,27 +101,27 @@ pub out_split-requires-clause-within : goal.out_split-requires-clause-within
 out_split-requires-clause-within t c =
     within_most c.args.set.g c.args.b (grid_few c.requires.ready) c.requires.within
 
-pub out_split-requires-clause-node_in_bounds : goal.out_split-requires-clause-node_in_bounds
-out_split-requires-clause-node_in_bounds t c =
+pub out_split-requires-clause-room : goal.out_split-requires-clause-room
+out_split-requires-clause-room t c =
     let room = c.requires.space in
     let same = c.build_mascon_node-upper.auto.out ∙ c.build_mascon_node-lower.auto.out in
     (λ w. omega (arith, node_room _ _ _ _ _ _ _ room w, same), node_low _ _ _ _ _ _ _ room)
 
 pub returns-in-Empty : goal.returns-in-Empty
 returns-in-Empty t c =
-    let k = kind_is (file.look c.args.file.now) c.args.set.g c.args.b _ _ c.sums_of-s.ensures.count_value c.kind_of-kind.ensures ∙ c.in-Empty.is in
+    let k = kind_is (file.look c.args.file.now) c.args.set.g c.args.b _ _ c.sums_of-s.ensures.counted c.kind_of-kind.ensures ∙ c.in-Empty.is in
     let tree = tree_empty (file.look c.args.file.now) c.args.set.g c.args.b k in
     written_as (sym tree) refl
     (written_empty _ _ c.args.set.at _ _ _ _ _ _ _ (c.sums_of-s.ensures.value ∙ empty_sums (file.look c.args.file.now) c.args.set.g c.args.b k) (subst (λ (u : Tree). Space c.args.set.write c.args.out.now c.args.set.at c.args.node c.args.before c.args.set.frame u) tree c.requires.space) c.out_empty.ensures)
 
 pub returns-in-Leaf : goal.returns-in-Leaf
 returns-in-Leaf t c =
-    let k = kind_is (file.look c.args.file.now) c.args.set.g c.args.b _ _ c.sums_of-s.ensures.count_value c.kind_of-kind.ensures ∙ c.in-Leaf.is in
+    let k = kind_is (file.look c.args.file.now) c.args.set.g c.args.b _ _ c.sums_of-s.ensures.counted c.kind_of-kind.ensures ∙ c.in-Leaf.is in
     written_as (sym (leaf_is _ _ _ _ c.sums_of-s.ensures.value k)) refl c.out_leaf.ensures
 
 pub returns-in-Fits-upper : goal.returns-in-Fits-upper
 returns-in-Fits-upper t c =
-    let k = kind_is (file.look c.args.file.now) c.args.set.g c.args.b _ _ c.sums_of-s.ensures.count_value c.kind_of-kind.ensures ∙ c.in-Split.is in
+    let k = kind_is (file.look c.args.file.now) c.args.set.g c.args.b _ _ c.sums_of-s.ensures.counted c.kind_of-kind.ensures ∙ c.in-Split.is in
     let two = split_halves (file.look c.args.file.now) c.args.set.g c.args.b k c.requires.within in
     let h = c.halves-half in
     let tree = the_split (file.look c.args.file.now) c.args.set.g c.args.b h.result.low h.result.high c.sums_of-s.result c.requires.within c.sums_of-s.ensures.value k h.ensures.0 h.ensures.1 in

@@ -16,18 +16,18 @@ overflow_add-next c =
 pub overflow_add-next-2 : goal.overflow_add-next-2
 overflow_add-next-2 c =
     let short = leaf_short _ _ _ _ _ _ _ _ (visit (look c.args.file.now) c.args.set.g c.args.b) c.requires.space in
-    record { fits = omega (arith, short, c.requires.count_value) }
+    record { fits = omega (arith, short, c.requires.counted) }
 
 pub out_record-judged-requires : goal.out_record-judged-requires
 out_record-judged-requires c =
-    record { within = within_most _ _ (grid_few c.requires.ready) c.requires.within; node_in_bounds = node_room _ _ _ _ _ _ _ c.requires.space }
+    record { within = within_most _ _ (grid_few c.requires.ready) c.requires.within; room = node_room _ _ _ _ _ _ _ c.requires.space }
 
 pub returns-in_default : goal.returns-in_default
 returns-in_default c =
     let a = c.args in
     let done = c.out_record-judged in
     let rooted = rooted_with c.leaf_numbers-q.ensures done.ensures in
-    leaf_large a.set.write a.out.now a.set.at a.node a.before a.set.frame a.b a.s _ a.s.count (index_count (visit (look a.file.now) a.set.g a.b) _ c.requires.count_value) refl c.requires.space done.new.out done.result rooted c.in_default.is
+    leaf_large a.set.write a.out.now a.set.at a.node a.before a.set.frame a.b a.s _ a.s.count (index_count (visit (look a.file.now) a.set.g a.b) _ c.requires.counted) refl c.requires.space done.new.out done.result rooted c.in_default.is
 
 pub overflow_add-at : goal.overflow_add-at
 overflow_add-at c =
@@ -45,11 +45,11 @@ returns-then-write c =
     let a = c.args in
     let done = c.out_record-judged in
     let rooted = rooted_with c.leaf_numbers-q.ensures done.ensures in
-    leaf_fits a.set.write a.out.now a.set.at a.node a.before a.set.frame a.b a.s _ a.s.count (index_count (visit (look a.file.now) a.set.g a.b) _ c.requires.count_value) refl c.requires.space done.new.out done.result rooted _ c.out_order.new.out c.in-Fits.is (rw c.if-write.true c.out_order.ensures.bytes)
+    leaf_fits a.set.write a.out.now a.set.at a.node a.before a.set.frame a.b a.s _ a.s.count (index_count (visit (look a.file.now) a.set.g a.b) _ c.requires.counted) refl c.requires.space done.new.out done.result rooted _ c.out_order.new.out c.in-Fits.is (rw c.if-write.true c.out_order.ensures.bytes)
 
 pub returns-else-write : goal.returns-else-write
 returns-else-write c =
     let a = c.args in
     let done = c.out_record-judged in
     let rooted = rooted_with c.leaf_numbers-q.ensures done.ensures in
-    leaf_fits a.set.write a.out.now a.set.at a.node a.before a.set.frame a.b a.s _ a.s.count (index_count (visit (look a.file.now) a.set.g a.b) _ c.requires.count_value) refl c.requires.space done.new.out done.result rooted _ done.new.out c.in-Fits.is (rw c.if-write.false refl)
+    leaf_fits a.set.write a.out.now a.set.at a.node a.before a.set.frame a.b a.s _ a.s.count (index_count (visit (look a.file.now) a.set.g a.b) _ c.requires.counted) refl c.requires.space done.new.out done.result rooted _ done.new.out c.in-Fits.is (rw c.if-write.false refl)

@@ -18,7 +18,7 @@ returns-then-not-narrow_all c =
     (sym c.if-not-narrow_all.true ∙ small, rw (and-false c.args.write) refl)
 
 pub out_words-requires : goal.out_words-requires
-out_words-requires c = c.requires.at_in_bounds c.if-write.true
+out_words-requires c = c.requires.room c.if-write.true
 
 pub returns-then-write : goal.returns-then-write
 unfolding node_bytes

@@ -15,7 +15,7 @@ use Rattle.row.proofs.entry.Goals as goal
 pub skips_row-requires : goal.skips_row-requires
 unfolding triangle_of
 skips_row-requires c =
-    record { at_in_bounds = (c.requires.i_in_bounds.0, c.requires.i_in_bounds.1); y_value = λ e. let n = c.requires.i_in_bounds.2 e in (n.on_y_law, n.on_z_law) }
+    record { good = (c.requires.good.0, c.requires.good.1); within = λ e. let n = c.requires.good.2 e in (n.on_y_law, n.on_z_law) }
 
 pub returns-then-skips_row : goal.returns-then-skips_row
 unfolding triangle_of point_of
@@ -23,7 +23,7 @@ returns-then-skips_row c =
     let s = c.args.s.now in
     let xs = c.args.xs.now in
     let skip = c.skips_row.ensures c.if-skips_row.true in
-    let near = c.requires.i_in_bounds.2 skip.0 in
+    let near = c.requires.good.2 skip.0 in
     let y = c.args.y in
     let z = c.args.z in
     let i = c.args.i in
@@ -48,5 +48,5 @@ returns c =
       made.ensures.2,
       λ q l. made.ensures.3 q l
           ∙ ap (λ (x : Crossing). old q ++ listed x)
-          (up_to_is s c.args.b c.args.y c.args.z xs c.args.ix.now c.args.i r.result t.result t.ensures r.ensures c.requires.i_in_bounds.3 q l),
+          (up_to_is s c.args.b c.args.y c.args.z xs c.args.ix.now c.args.i r.result t.result t.ensures r.ensures c.requires.good.3 q l),
     )

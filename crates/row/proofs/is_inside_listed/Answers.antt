@@ -12,7 +12,7 @@ pub listed_answers-requires : goal.listed_answers-requires
 listed_answers-requires c =
     let o = c.args.o in
     let s = c.args.s.now in
-    let few = list_few s c.args.b (row_pair c.args.b o.y o.z) in record { s_value = (c.requires.s_value.0, λ e. one_near o (sym c.vector_up_to-near.ensures ∙ e), one_indexed o c.args.b _ c.x_index.ensures); listed = c.requires.listed; xs_len_bound = (omega arith, omega arith, omega (arith, few, c.requires.s_value.1), omega arith) }
+    let few = list_few s c.args.b (row_pair c.args.b o.y o.z) in record { good = (c.requires.good.0, λ e. one_near o (sym c.vector_up_to-near.ensures ∙ e), one_indexed o c.args.b _ c.x_index.ensures); listed = c.requires.listed; room = (omega arith, omega arith, omega (arith, few, c.requires.good.1), omega arith) }
 
 pub returns : goal.returns
 returns c =

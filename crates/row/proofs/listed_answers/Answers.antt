@@ -87,7 +87,7 @@ row_answers-requires c =
     let p = pair.result in
     let l : List ℕ = take (get_or o (p + 1) 0 - get_or o p 0) (drop (get_or o p 0) e) in
     let between : l ≡ row_list s b (length s / 72) p = list_between s b o e p low c.requires.listed in
-    let own : l ≡ row_list s b (length s / 72) (row_pair b c.args.y c.args.z) = between ∙ ap (row_list s b (length s / 72)) pair.ensures in record { by_index = (listed_good s b p l between c.requires.s_value.0, c.requires.s_value.1, c.requires.s_value.2); list_value = (own, c.requires.xs_len_bound.0, c.requires.xs_len_bound.1, rw own c.requires.xs_len_bound.2, c.requires.xs_len_bound.3) }
+    let own : l ≡ row_list s b (length s / 72) (row_pair b c.args.y c.args.z) = between ∙ ap (row_list s b (length s / 72)) pair.ensures in record { good = (listed_good s b p l between c.requires.good.0, c.requires.good.1, c.requires.good.2); list_is = (own, c.requires.room.0, c.requires.room.1, rw own c.requires.room.2, c.requires.room.3) }
 
 pub returns : goal.returns
 returns c =

@@ -15,7 +15,7 @@ loop-t-init c = (
   omega arith,
   refl,
   refl,
-  λ q l. let z = c.requires.xs_in_bounds.3 q in
+  λ q l. let z = c.requires.room.3 q in
       (omega arith, region_none c.args.fl.now c.args.counts.now (length c.args.list.now) q z ∙ at_none c.args.s.now c.args.b c.args.y c.args.z c.args.xs.now c.args.list.now q),
 )
 
@@ -26,12 +26,12 @@ pub entry-requires : goal.entry-requires
 entry-requires c =
     let turn = c.loop-t in
     let low : turn.t < length c.args.list.now = omega arith in
-    let own = c.requires.by_index.0 turn.t low in record {
-      i_in_bounds = (own.0, own.1, c.requires.by_index.1, c.requires.by_index.2);
-      xs_in_bounds = (
-        c.requires.xs_in_bounds.0,
-        omega (arith, c.requires.xs_in_bounds.1, turn.invariant.2),
-        omega (arith, c.requires.xs_in_bounds.2, turn.invariant.1),
+    let own = c.requires.good.0 turn.t low in record {
+      good = (own.0, own.1, c.requires.good.1, c.requires.good.2);
+      room = (
+        c.requires.room.0,
+        omega (arith, c.requires.room.1, turn.invariant.2),
+        omega (arith, c.requires.room.2, turn.invariant.1),
         λ q l. let h = (turn.invariant.3 q l).0 in omega arith,
       );
     }

@@ -11,12 +11,12 @@ use Rattle.row.proofs.row_answers.Goals as goal
 
 pub pass-read-requires : goal.pass-read-requires
 pass-read-requires c =
-    record { by_index = c.requires.by_index; xs_in_bounds = (c.requires.list_value.2, omega (arith, c.requires.list_value.1, blank_length 256), c.requires.list_value.3, zeros 256) }
+    record { good = c.requires.good; room = (c.requires.list_is.2, omega (arith, c.requires.list_is.1, blank_length 256), c.requires.list_is.3, zeros 256) }
 
 pub answers-requires : goal.answers-requires
 answers-requires c =
     let made = c.pass-read in
-    (omega (arith, c.requires.list_value.1, made.ensures.2, blank_length 256), omega (arith, c.requires.list_value.3, made.ensures.1), c.requires.list_value.4, λ q l. (made.ensures.3 q l).0)
+    (omega (arith, c.requires.list_is.1, made.ensures.2, blank_length 256), omega (arith, c.requires.list_is.3, made.ensures.1), c.requires.list_is.4, λ q l. (made.ensures.3 q l).0)
 
 pub returns : goal.returns
 returns c =
@@ -24,6 +24,6 @@ returns c =
     let said = c.answers in (
       made.ensures.0,
       λ q l. said.ensures.1 q l
-          ∙ ap yes (ap odd_rest (made.ensures.3 q l).1 ∙ ap (λ (list : List ℕ). odd_rest (crossings_at c.args.s.now c.args.b c.args.y c.args.z c.args.xs.now list q)) c.requires.list_value.0 ∙ row_answer c.args.s.now c.args.b c.args.y c.args.z c.args.xs.now q),
+          ∙ ap yes (ap odd_rest (made.ensures.3 q l).1 ∙ ap (λ (list : List ℕ). odd_rest (crossings_at c.args.s.now c.args.b c.args.y c.args.z c.args.xs.now list q)) c.requires.list_is.0 ∙ row_answer c.args.s.now c.args.b c.args.y c.args.z c.args.xs.now q),
       λ q l. said.ensures.2 q l,
     )

@@ -14,23 +14,23 @@ pub fill_marks-requires : goal.fill_marks-requires
 unfolding room_of
 fill_marks-requires c =
     let a = c.args in
-    record { file_value = (c.requires.file_value.0, marks_works _ (sym c.in-Marks.is ∙ c.requires.file_value.1)); file_in_bounds = subst (λ (form : Form). room_of form (grid a.file.now) ≤ length a.words.now) c.in-Marks.is c.requires.file_in_bounds }
+    record { works = (c.requires.accepted.0, marks_works _ (sym c.in-Marks.is ∙ c.requires.accepted.1)); room = subst (λ (form : Form). room_of form (grid a.file.now) ≤ length a.words.now) c.in-Marks.is c.requires.room }
 
 pub count-requires : goal.count-requires
-count-requires c = (accepted _ c.requires.file_value.0).long
+count-requires c = (accepted _ c.requires.accepted.0).long
 
 pub fill_counted-requires : goal.fill_counted-requires
 unfolding room_of
 fill_counted-requires c =
     let a = c.args in
-    record { file_value = c.requires.file_value.0; file_in_bounds = subst (λ (form : Form). room_of form (grid a.file.now) ≤ length a.words.now) c.in-Words.is c.requires.file_in_bounds }
+    record { accepted = c.requires.accepted.0; room = subst (λ (form : Form). room_of form (grid a.file.now) ≤ length a.words.now) c.in-Words.is c.requires.room }
 
 pub returns-in-Marks : goal.returns-in-Marks
 returns-in-Marks c =
     let a = c.args in
-    let works = marks_works _ (sym c.in-Marks.is ∙ c.requires.file_value.1) in
+    let works = marks_works _ (sym c.in-Marks.is ∙ c.requires.accepted.1) in
     let filled = c.fill_marks in
-    (c.count.ensures ∙ sym (working_count _ c.requires.file_value.0 works), subst (λ (form : Form). Held form filled.new.words a.file.now) (sym c.in-Marks.is) (works, filled.ensures.0), filled.ensures.1)
+    (c.count.ensures ∙ sym (working_count _ c.requires.accepted.0 works), subst (λ (form : Form). Held form filled.new.words a.file.now) (sym c.in-Marks.is) (works, filled.ensures.0), filled.ensures.1)
 
 pub returns-in-Words : goal.returns-in-Words
 returns-in-Words c =

@@ -11,7 +11,7 @@ use Rattle.runs.proofs.worded_run.Goals as goal
 
 pub cell_number-requires : goal.cell_number-requires
 cell_number-requires c =
-    record { g_bound = rw c.requires.ready.gridded (accepted _ c.requires.ready.accepted).grid_few; inside = record { x_low = omega (arith, c.requires.x_lt_x1); y_low = c.requires.x_lt_x1.2; z_low = c.requires.x_lt_x1.3 } }
+    record { grid_few = rw c.requires.ready.gridded (accepted _ c.requires.ready.accepted).grid_few; inside = record { x_low = omega (arith, c.requires.in_grid); y_low = c.requires.in_grid.2; z_low = c.requires.in_grid.3 } }
 
 pub bounds-words-cell_number : goal.bounds-words-cell_number
 bounds-words-cell_number c =
@@ -21,12 +21,12 @@ pub returns-then-word-eq0 : goal.returns-then-word-eq0
 returns-then-word-eq0 c =
     let a = c.args in
     let n = c.cell_number in
-    worded_none a.file.now c.requires.ready.accepted a.g c.requires.ready.gridded a.x a.x1 a.y a.z c.requires.x_lt_x1.0 c.requires.x_lt_x1.1 c.requires.x_lt_x1.2 c.requires.x_lt_x1.3 _
+    worded_none a.file.now c.requires.ready.accepted a.g c.requires.ready.gridded a.x a.x1 a.y a.z c.requires.in_grid.0 c.requires.in_grid.1 c.requires.in_grid.2 c.requires.in_grid.3 _
     (c.requires.ready.held.each n.result (rw (← c.requires.ready.gridded) n.ensures.1) ∙ ap (λ (k : ℕ). slot_word (look a.file.now k)) n.ensures.0) c.if-word-eq0.true
 
 pub returns : goal.returns
 returns c =
     let a = c.args in
     let n = c.cell_number in
-    worded_one a.file.now c.requires.ready.accepted a.g c.requires.ready.gridded a.x a.x1 a.y a.z c.requires.x_lt_x1.0 c.requires.x_lt_x1.1 c.requires.x_lt_x1.2 c.requires.x_lt_x1.3 _
+    worded_one a.file.now c.requires.ready.accepted a.g c.requires.ready.gridded a.x a.x1 a.y a.z c.requires.in_grid.0 c.requires.in_grid.1 c.requires.in_grid.2 c.requires.in_grid.3 _
     (c.requires.ready.held.each n.result (rw (← c.requires.ready.gridded) n.ensures.1) ∙ ap (λ (k : ℕ). slot_word (look a.file.now k)) n.ensures.0) c.if-word-eq0.false

@@ -40,7 +40,7 @@ fill-requires c =
     let passed : file_cause c.args.file.now ≡ 0 = let judged = c.parse_mascon_bytes-cause in none_found _ judged.result judged.ensures c.is_refused.ensures c.if-is_refused.false in
     let room_is : c.room.result ≡ room_of c.form_of-form.result (grid c.args.file.now) = c.room.ensures ∙ ap (room_of c.form_of-form.result) c.grid.ensures in
     let form = c.form_of-form in
-    record { file_value = (passed, form.ensures); file_in_bounds = rw room_is at c.if-words-room.false }
+    record { accepted = (passed, form.ensures); room = rw room_is at c.if-words-room.false }
 
 pub count-requires : goal.count-requires
 count-requires c =

@@ -12,49 +12,49 @@ loop-index-init c = (omega arith, adding_start _ _ _ _ _ _)
 pub overflow_mul-at : goal.overflow_mul-at
 overflow_mul-at c =
     let l = c.loop-index in
-    let there = record_there c.args.file.now _ l.index c.requires.file_value (omega (arith, c.requires.k_bound.0)) refl in
+    let there = record_there c.args.file.now _ l.index c.requires.accepted (omega (arith, c.requires.room.0)) refl in
     search rules
 
 pub overflow_add-at : goal.overflow_add-at
 overflow_add-at c =
     let l = c.loop-index in
-    let there = record_there c.args.file.now _ l.index c.requires.file_value (omega (arith, c.requires.k_bound.0)) refl in
+    let there = record_there c.args.file.now _ l.index c.requires.accepted (omega (arith, c.requires.room.0)) refl in
     search rules
 
 pub u16_at-x-requires : goal.u16_at-x-requires
 u16_at-x-requires c =
     let l = c.loop-index in
-    let there = record_there c.args.file.now _ l.index c.requires.file_value (omega (arith, c.requires.k_bound.0)) refl in
+    let there = record_there c.args.file.now _ l.index c.requires.accepted (omega (arith, c.requires.room.0)) refl in
     omega (arith, there)
 
 pub overflow_add-at-in-loop-index : goal.overflow_add-at-in-loop-index
 overflow_add-at-in-loop-index c =
     let l = c.loop-index in
-    let there = record_there c.args.file.now _ l.index c.requires.file_value (omega (arith, c.requires.k_bound.0)) refl in
+    let there = record_there c.args.file.now _ l.index c.requires.accepted (omega (arith, c.requires.room.0)) refl in
     search rules
 
 pub mass_at-cauchy-requires : goal.mass_at-cauchy-requires
 mass_at-cauchy-requires c =
     let l = c.loop-index in
-    let there = record_there c.args.file.now _ l.index c.requires.file_value (omega (arith, c.requires.k_bound.0)) refl in
-    (omega (arith, there), (masses_finite_law c.args.file.now _ l.index c.requires.file_value (omega (arith, c.requires.k_bound.0)) refl).0)
+    let there = record_there c.args.file.now _ l.index c.requires.accepted (omega (arith, c.requires.room.0)) refl in
+    (omega (arith, there), (masses_finite_law c.args.file.now _ l.index c.requires.accepted (omega (arith, c.requires.room.0)) refl).0)
 
 pub overflow_add-at-in-loop-index-2 : goal.overflow_add-at-in-loop-index-2
 overflow_add-at-in-loop-index-2 c =
     let l = c.loop-index in
-    let there = record_there c.args.file.now _ l.index c.requires.file_value (omega (arith, c.requires.k_bound.0)) refl in
+    let there = record_there c.args.file.now _ l.index c.requires.accepted (omega (arith, c.requires.room.0)) refl in
     search rules
 
 pub mass_at-elliptic-requires : goal.mass_at-elliptic-requires
 mass_at-elliptic-requires c =
     let l = c.loop-index in
-    let there = record_there c.args.file.now _ l.index c.requires.file_value (omega (arith, c.requires.k_bound.0)) refl in
-    (omega (arith, there), (masses_finite_law c.args.file.now _ l.index c.requires.file_value (omega (arith, c.requires.k_bound.0)) refl).1)
+    let there = record_there c.args.file.now _ l.index c.requires.accepted (omega (arith, c.requires.room.0)) refl in
+    (omega (arith, there), (masses_finite_law c.args.file.now _ l.index c.requires.accepted (omega (arith, c.requires.room.0)) refl).1)
 
 pub with_point-t-requires : goal.with_point-t-requires
 with_point-t-requires c =
     let l = c.loop-index in
-    omega (arith, l.invariant.1.few, c.requires.k_bound.1)
+    omega (arith, l.invariant.1.few, c.requires.room.1)
 
 pub loop-index-preserved : goal.loop-index-preserved
 loop-index-preserved c =

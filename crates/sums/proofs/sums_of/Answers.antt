@@ -17,7 +17,7 @@ loop-z-init c = (omega arith, omega (arith, c.requires.within.proper.in_z), omeg
 pub visit_plane-t-requires : goal.visit_plane-t-requires
 visit_plane-t-requires c =
     let none = ap (λ (t : Sums). t.count) c.nothing-t.ensures in
-    record { ready = c.requires.ready; within = c.requires.within; z_lt_g = (omega (arith, c.loop-z-test.true, c.requires.within.to_z), omega (arith, none, grid_few c.requires.ready, c.requires.within.to_z)) }
+    record { ready = c.requires.ready; within = c.requires.within; in_grid = (omega (arith, c.loop-z-test.true, c.requires.within.to_z), omega (arith, none, grid_few c.requires.ready, c.requires.within.to_z)) }
 
 pub loop-z-preserved : goal.loop-z-preserved
 loop-z-preserved c =
@@ -32,4 +32,4 @@ returns c =
     let f = plane (look a.file.now) a.g a.b in
     let all : l.t ≡ sums_of (look a.file.now) a.g a.b =
     sums_end f a.b.z1 l.z l.t _ c.loop-z-test.false l.invariant.3 ∙ ap (Rest f a.b.z1 a.b.z0) c.nothing-t.ensures in
-    record { value = all; count_value = ap (λ (t : Sums). t.count) all ∙ (total_count nothing (visit (look a.file.now) a.g a.b) ∙ zero-add _) }
+    record { value = all; counted = ap (λ (t : Sums). t.count) all ∙ (total_count nothing (visit (look a.file.now) a.g a.b) ∙ zero-add _) }

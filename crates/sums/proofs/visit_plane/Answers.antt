@@ -12,7 +12,7 @@ loop-y-init c = (omega arith, omega (arith, c.requires.within.proper.in_y), omeg
 
 pub visit_row-t-requires : goal.visit_row-t-requires
 visit_row-t-requires c =
-    record { ready = c.requires.ready; within = c.requires.within; y_lt_g = (omega (arith, c.loop-y-test.true, c.requires.within.to_y), c.requires.z_lt_g.0, omega (arith, grid_few c.requires.ready, c.requires.within.to_y)) }
+    record { ready = c.requires.ready; within = c.requires.within; in_grid = (omega (arith, c.loop-y-test.true, c.requires.within.to_y), c.requires.in_grid.0, omega (arith, grid_few c.requires.ready, c.requires.within.to_y)) }
 
 pub loop-y-preserved : goal.loop-y-preserved
 loop-y-preserved c =
@@ -24,4 +24,4 @@ pub returns : goal.returns
 returns c =
     let a = c.args in
     let l = c.loop-y in
-    record { value = sums_end (row (look a.file.now) a.g a.b a.z) a.b.y1 l.y l.t _ c.loop-y-test.false l.invariant.3; count_bound = omega (arith, grid_few c.requires.ready, c.requires.within.to_y) }
+    record { value = sums_end (row (look a.file.now) a.g a.b a.z) a.b.y1 l.y l.t _ c.loop-y-test.false l.invariant.3; few = omega (arith, grid_few c.requires.ready, c.requires.within.to_y) }

@@ -16,7 +16,7 @@ loop-x-init c = (omega (arith, c.requires.within.proper.in_x), refl)
 
 pub next_run-r-requires : goal.next_run-r-requires
 next_run-r-requires c =
-    record { ready = c.requires.ready; x_lt_x1 = (omega (arith, c.loop-x-test.true), c.requires.within.to_x, omega (arith, c.requires.y_lt_g), omega (arith, c.requires.y_lt_g)) }
+    record { ready = c.requires.ready; in_grid = (omega (arith, c.loop-x-test.true), c.requires.within.to_x, omega (arith, c.requires.in_grid), omega (arith, c.requires.in_grid)) }
 
 pub add_records-t-requires : goal.add_records-t-requires
 add_records-t-requires c =
@@ -29,7 +29,7 @@ add_records-t-requires c =
     let left = sums_left f a.b.x1 l.x a.b.x0 l.t a.s l.invariant.1 in
     let few = run_few (look a.file.now) a.g a.z a.y a.b.x0 (a.b.x1 - a.b.x0) in
     let long = length_placed a.file.now a.z a.y r.result.index r.result.count in
-    record { file_value = c.requires.ready.accepted; k_bound = (r.ensures.in_file, omega (arith, all, left, few, long, c.requires.y_lt_g, grid_few c.requires.ready, c.requires.within.to_x)) }
+    record { accepted = c.requires.ready.accepted; room = (r.ensures.in_file, omega (arith, all, left, few, long, c.requires.in_grid, grid_few c.requires.ready, c.requires.within.to_x)) }
 
 pub loop-x-smaller : goal.loop-x-smaller
 loop-x-smaller c = let r = c.next_run-r.ensures in omega (arith, r.on, r.in_row)
@@ -51,4 +51,4 @@ returns c =
     let all = sums_end f a.b.x1 l.x l.t _ c.loop-x-test.false l.invariant.1 in
     let points = ap (λ (t : Sums). t.count) all ∙ total_count a.s (row (look a.file.now) a.g a.b a.z a.y) in
     let few = run_few (look a.file.now) a.g a.z a.y a.b.x0 (a.b.x1 - a.b.x0) in
-    record { value = all; count_bound = omega (arith, points, few, grid_few c.requires.ready, c.requires.within.to_x) }
+    record { value = all; few = omega (arith, points, few, grid_few c.requires.ready, c.requires.within.to_x) }

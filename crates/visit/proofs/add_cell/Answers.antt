@@ -14,8 +14,8 @@ unfolding mass_of raw_point with_cell cell_point
 returns c =
     let a = c.args in
     let o = c.out_masses in
-    let first : c.mass_at-first.result ≡ mass_of a.f a.g (kernels a.cauchy.now) a.c = rw (← c.requires.p_value) c.mass_at-first.ensures in
-    let second : c.mass_at-second.result ≡ mass_of a.f a.g (kernels a.elliptic.now) a.c = rw (← c.requires.p_value) c.mass_at-second.ensures in
+    let first : c.mass_at-first.result ≡ mass_of a.f a.g (kernels a.cauchy.now) a.c = rw (← c.requires.middle) c.mass_at-first.ensures in
+    let second : c.mass_at-second.result ≡ mass_of a.f a.g (kernels a.elliptic.now) a.c = rw (← c.requires.middle) c.mass_at-second.ensures in
     let large : c.if-not-out_masses.large ≡ (a.w.large || not o.result) =
     elim c.if-not-out_masses.branch [ then-not-out_masses k ↦ k.large-is ∙ large_taken a.w.large o.result (ap not k.if-not-out_masses.true) | else-not-out_masses k ↦ k.large-is ∙ large_left a.w.large o.result (ap not k.if-not-out_masses.false) ] in
     record { value = rw (← first, ← second, ← o.ensures.0, ← large); out_after = rw (← first, ← second, ← o.ensures.0) o.ensures.1 }

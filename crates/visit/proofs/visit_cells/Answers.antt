@@ -40,14 +40,14 @@ middle-p-requires c = c.requires.ready.some
 
 pub is_inside-requires : goal.is_inside-requires
 is_inside-requires c =
-    record { s_in_bounds = omega (arith, c.requires.ready.scratch, c.loop-c.invariant.1); s_value = c.requires.ready.good }
+    record { room = omega (arith, c.requires.ready.scratch, c.loop-c.invariant.1); good = c.requires.ready.good }
 
 pub loop-c-preserved-then-not-is_inside : goal.loop-c-preserved-then-not-is_inside
 unfolding cube
 loop-c-preserved-then-not-is_inside c =
     let a = c.args in
     let outside : is_inside (test_box (mesh a.triangles.now)) (mesh a.triangles.now) (def.middle a.f a.g c.loop-c.c) ≡ false =
-    rw (← c.requires.b_value, ← c.middle-p.ensures, ← c.is_inside.ensures) c.if-not-is_inside.true in (
+    rw (← c.requires.box_is, ← c.middle-p.ensures, ← c.is_inside.ensures) c.if-not-is_inside.true in (
       omega arith,
       c.is_inside.auto.floats ∙ c.loop-c.invariant.1,
       visit_past (mesh a.triangles.now) a.f a.g (kernels a.cauchy.now) (kernels a.elliptic.now) a.out.now c.loop-c.c c.loop-c.w c.loop-c.out
@@ -67,7 +67,7 @@ unfolding cube
 returns-then-capacity-w c =
     let a = c.args in
     let inside : is_inside (test_box (mesh a.triangles.now)) (mesh a.triangles.now) (def.middle a.f a.g c.loop-c.c) ≡ true =
-    rw (← c.requires.b_value, ← c.middle-p.ensures, ← c.is_inside.ensures) c.if-not-is_inside.false in
+    rw (← c.requires.box_is, ← c.middle-p.ensures, ← c.is_inside.ensures) c.if-not-is_inside.false in
     let full : capacity a.g ≤ c.loop-c.w.count = omega (arith, c.if-capacity-w.true, c.capacity_of-capacity.ensures) in
     visit_full (mesh a.triangles.now) a.f a.g (kernels a.cauchy.now) (kernels a.elliptic.now) a.out.now c.loop-c.c c.loop-c.w c.loop-c.out _
     (omega arith) inside full c.loop-c.invariant.2
@@ -76,14 +76,14 @@ pub add_cell-w-requires : goal.add_cell-w-requires
 add_cell-w-requires c =
     let low : c.loop-c.w.count < capacity c.args.g = omega (arith, c.if-capacity-w.false, c.capacity_of-capacity.ensures) in
     let room = visit_room _ _ _ _ _ _ c.loop-c.c c.loop-c.w c.loop-c.out c.requires.ready.room low c.loop-c.invariant.2 in
-    record { g_nonzero = (c.requires.ready.some, omega (arith, low, capacity_few c.args.g c.requires.ready.few), room); p_value = c.middle-p.ensures }
+    record { room = (c.requires.ready.some, omega (arith, low, capacity_few c.args.g c.requires.ready.few), room); middle = c.middle-p.ensures }
 
 pub loop-c-preserved : goal.loop-c-preserved
 unfolding cube
 loop-c-preserved c =
     let a = c.args in
     let inside : is_inside (test_box (mesh a.triangles.now)) (mesh a.triangles.now) (def.middle a.f a.g c.loop-c.c) ≡ true =
-    rw (← c.requires.b_value, ← c.middle-p.ensures, ← c.is_inside.ensures) c.if-not-is_inside.false in
+    rw (← c.requires.box_is, ← c.middle-p.ensures, ← c.is_inside.ensures) c.if-not-is_inside.false in
     let low : c.loop-c.w.count < capacity a.g = omega (arith, c.if-capacity-w.false, c.capacity_of-capacity.ensures) in
     let below : c.loop-c.c < a.g * a.g * a.g = c.loop-c-test.true in (
       omega (arith, below),

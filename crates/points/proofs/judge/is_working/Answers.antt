@@ -18,7 +18,7 @@ point_at-p-requires c = omega arith
 pub cell_number-c-requires : goal.cell_number-c-requires
 cell_number-c-requires c =
     let loop = c.loop-left in
-    let args = c.args in record { g_bound = c.requires.n_in_bounds.1; inside = inside_at args.g args.file.now loop.at args.n (args.n - loop.left) c.point_at-p.result c.requires.n_value (omega arith) (omega arith) c.point_at-p.ensures }
+    let args = c.args in record { grid_few = c.requires.whole.1; inside = inside_at args.g args.file.now loop.at args.n (args.n - loop.left) c.point_at-p.result c.requires.right (omega arith) (omega arith) c.point_at-p.ensures }
 
 pub returns-then-c-low : goal.returns-then-c-low
 unfolding cell_of
@@ -44,7 +44,7 @@ returns-then-p-ne0 c =
 
 pub overflow_add-low : goal.overflow_add-low
 overflow_add-low c =
-    omega (arith, c.cell_number-c.ensures.1, cube_few c.args.g c.requires.n_in_bounds.1)
+    omega (arith, c.cell_number-c.ensures.1, cube_few c.args.g c.requires.whole.1)
 
 pub overflow_add-at : goal.overflow_add-at
 unfolding size

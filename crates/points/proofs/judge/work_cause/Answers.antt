@@ -14,7 +14,7 @@ pub is_working-requires : goal.is_working-requires
 unfolding points
 is_working-requires c =
     let good = accepted c.args.file.now c.requires in
-    record { n_in_bounds = rw (c.count.ensures, c.grid.ensures) (good.room, good.grid_few); n_value = rw (c.count.ensures, c.grid.ensures) (accepted_points c.args.file.now c.requires) }
+    record { whole = rw (c.count.ensures, c.grid.ensures) (good.room, good.grid_few); right = rw (c.count.ensures, c.grid.ensures) (accepted_points c.args.file.now c.requires) }
 
 pub returns-then-is_working : goal.returns-then-is_working
 unfolding number work_cause points when

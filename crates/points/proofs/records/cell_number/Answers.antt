@@ -20,16 +20,16 @@ unfolding cell
 cell-few g x y z h i = omega (arith, cell_low g x y z i, cube_few g h)
 
 pub overflow_mul-result : goal.overflow_mul-result
-overflow_mul-result c = omega (arith, plane_few c.args.g c.args.x c.args.y c.args.z c.requires.g_bound c.requires.inside)
+overflow_mul-result c = omega (arith, plane_few c.args.g c.args.x c.args.y c.args.z c.requires.grid_few c.requires.inside)
 
 pub overflow_add-result : goal.overflow_add-result
-overflow_add-result c = omega (arith, plane_few c.args.g c.args.x c.args.y c.args.z c.requires.g_bound c.requires.inside)
+overflow_add-result c = omega (arith, plane_few c.args.g c.args.x c.args.y c.args.z c.requires.grid_few c.requires.inside)
 
 pub overflow_mul-result-2 : goal.overflow_mul-result-2
-overflow_mul-result-2 c = omega (arith, cell-few c.args.g c.args.x c.args.y c.args.z c.requires.g_bound c.requires.inside)
+overflow_mul-result-2 c = omega (arith, cell-few c.args.g c.args.x c.args.y c.args.z c.requires.grid_few c.requires.inside)
 
 pub overflow_add-result-2 : goal.overflow_add-result-2
-overflow_add-result-2 c = omega (arith, cell-few c.args.g c.args.x c.args.y c.args.z c.requires.g_bound c.requires.inside)
+overflow_add-result-2 c = omega (arith, cell-few c.args.g c.args.x c.args.y c.args.z c.requires.grid_few c.requires.inside)
 
 pub returns : goal.returns
 unfolding cell

@@ -10,4 +10,4 @@ returns-then-not-near c = λ e. absurd (true≢false (sym e))
 
 pub returns : goal.returns
 returns c =
-    λ e. quick_misses c.args.origin _ c.requires.at_in_bounds.1 (c.requires.origin_value c.if-not-near.false) (sym c.quick_miss.ensures ∙ e)
+    λ e. quick_misses c.args.origin _ c.requires.good.1 (c.requires.within c.if-not-near.false) (sym c.quick_miss.ensures ∙ e)

@@ -11,5 +11,5 @@ returns c = λ e. absurd (true≢false (sym e))
 pub returns-then-near : goal.returns-then-near
 returns-then-near c =
     let yes = c.if-near.true in
-    let near = c.requires.y_value yes in
-    λ e. (yes, λ x h. row_misses x _ c.args.y c.args.z _ c.requires.at_in_bounds.1 near.0 near.1 h (sym c.quick_miss.ensures ∙ e))
+    let near = c.requires.within yes in
+    λ e. (yes, λ x h. row_misses x _ c.args.y c.args.z _ c.requires.good.1 near.0 near.1 h (sym c.quick_miss.ensures ∙ e))

@@ -13,4 +13,4 @@ slice_bounds-is_same_history-end-2 c = sym (length-take-le c.u32_at-journal.resu
 pub is_same_history-requires : goal.is_same_history-requires
 is_same_history-requires c =
     let file = c.u32_at-file.result in
-    let journal = c.u32_at-journal.result in record { in_bounds = (omega arith, omega arith); file_len_bound = (omega (arith, length-take-le file c.bytes-image.result (omega arith)), omega (arith, length-take-le journal c.words-entries.result (omega arith))) }
+    let journal = c.u32_at-journal.result in record { whole = (omega arith, omega arith); few = (omega (arith, length-take-le file c.bytes-image.result (omega arith)), omega (arith, length-take-le journal c.words-entries.result (omega arith))) }

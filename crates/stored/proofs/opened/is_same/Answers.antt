@@ -44,8 +44,8 @@ pub is_same_open-requires : goal.is_same_open-requires
 is_same_open-requires c =
     let out = c.u32_at-out.result in
     let journal = c.u32_at-journal.result in record {
-      in_bounds = (omega arith, omega arith);
-      out_len_bound = (
+      whole = (omega arith, omega arith);
+      few = (
         omega (arith, length-take-le out c.bytes-image.result (omega arith)),
         omega (arith, length-take-le journal c.words-entries.result (omega arith)),
       );

@@ -13,7 +13,7 @@ out_plane-at-requires c =
     let a = c.args in
     let l = c.loop-z in
     let room = storing_room (plane (look a.file.now) a.g a.b) a.b.z1 a.out.now a.from a.b.z0 c.requires.room l.out l.at l.z c.loop-z-test.true l.invariant.1 in
-    record { ready = c.requires.ready; within = c.requires.within; z_lt_g = omega (arith, c.loop-z-test.true, c.requires.within.to_z); room = room }
+    record { ready = c.requires.ready; within = c.requires.within; in_grid = omega (arith, c.loop-z-test.true, c.requires.within.to_z); room = room }
 
 pub loop-z-preserved : goal.loop-z-preserved
 loop-z-preserved c =

@@ -13,7 +13,7 @@ out_row-at-requires c =
     let a = c.args in
     let l = c.loop-y in
     let room = storing_room (row (look a.file.now) a.g a.b a.z) a.b.y1 a.out.now a.from a.b.y0 c.requires.room l.out l.at l.y c.loop-y-test.true l.invariant.1 in
-    record { ready = c.requires.ready; within = c.requires.within; y_lt_g = (omega (arith, c.loop-y-test.true, c.requires.within.to_y), c.requires.z_lt_g); room = room }
+    record { ready = c.requires.ready; within = c.requires.within; in_grid = (omega (arith, c.loop-y-test.true, c.requires.within.to_y), c.requires.in_grid); room = room }
 
 pub loop-y-preserved : goal.loop-y-preserved
 loop-y-preserved c =

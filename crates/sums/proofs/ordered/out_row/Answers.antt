@@ -13,7 +13,7 @@ loop-x-init c = (omega (arith, c.requires.within.proper.in_x), storing_start _ _
 
 pub next_run-r-requires : goal.next_run-r-requires
 next_run-r-requires c =
-    record { ready = c.requires.ready; x_lt_x1 = (omega (arith, c.loop-x-test.true), c.requires.within.to_x, c.requires.y_lt_g.0, c.requires.y_lt_g.1) }
+    record { ready = c.requires.ready; in_grid = (omega (arith, c.loop-x-test.true), c.requires.within.to_x, c.requires.in_grid.0, c.requires.in_grid.1) }
 
 pub out_records-at-requires : goal.out_records-at-requires
 out_records-at-requires c =

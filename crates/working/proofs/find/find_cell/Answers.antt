@@ -29,7 +29,7 @@ cell_number-k-requires c =
     let n = c.count-n in
     let g = c.grid-g in
     let f = c.args.file.now in
-    let low : loop.i < count f = omega (arith, c.loop-i-test.true, n.ensures) in record { g_bound = rw g.ensures (accepted f c.requires.0).grid_few; inside = rw g.ensures (inside_at (grid f) f loop.at (count f) loop.i c.point_at-p.result (accepted_points f c.requires.0) loop.invariant.place low c.point_at-p.ensures) }
+    let low : loop.i < count f = omega (arith, c.loop-i-test.true, n.ensures) in record { grid_few = rw g.ensures (accepted f c.requires.0).grid_few; inside = rw g.ensures (inside_at (grid f) f loop.at (count f) loop.i c.point_at-p.result (accepted_points f c.requires.0) loop.invariant.place low c.point_at-p.ensures) }
 
 pub returns-then-c-k-2 : goal.returns-then-c-k-2
 unfolding cell_of

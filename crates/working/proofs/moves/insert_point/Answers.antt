@@ -22,5 +22,5 @@ out_u32-requires c = omega arith
 
 pub returns : goal.returns
 returns c =
-    come _ _ _ _ c.args.i c.count-n.result c.args.p c.count-n.ensures c.requires.i_bound.0 c.requires.file_in_bounds
+    come _ _ _ _ c.args.i c.count-n.result c.args.p c.count-n.ensures c.requires.in_order.0 c.requires.room
     c.move_up.ensures c.out_point.ensures c.out_u32.ensures
