@@ -2,7 +2,6 @@
 use mathlib.Core.Path.{refl, sym, ◌∙◌}
 use mathlib.Core.Bool.{true, false}
 use native.Mathlib.Omega.{arith}
-use borrow.Author.Tests.{not-true, not-false}
 use Rattle.rym1.specs.Causes.{number}
 use Rattle.filling.specs.Inside.{side_number}
 use Rattle.filling.proofs.Lists.{mesh_good}

@@ -9,7 +9,6 @@ use Rattle.rym1.specs.File.{finite, all_finite}
 use Rattle.binary.proofs.Words.{word_large, word_small}
 use Rattle.mascon_grid.specs.Scaled.{header_around, header_of}
 use Rattle.mascon_grid.proofs.Finished.{scale_word, way_scale, way_floats, way_masses, way_file}
-use borrow.Author.Tests.{not-true, not-false}
 use Rattle.mascon_grid.proofs.finish.Goals as goal
 
 pub returns-in_default : goal.returns-in_default

@@ -1,5 +1,4 @@
 -- `mascon_grid::lists_wrong` meets its contract: each return rewrites the definition's tests by those that led there. Assumes nothing.
-use borrow.Author.Tests.{not-true, not-false}
 use Rattle.filling.specs.Fill.{lists_wrong}
 use Rattle.mascon_grid.proofs.lists_wrong.Goals as goal
 

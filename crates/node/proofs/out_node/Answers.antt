@@ -7,7 +7,6 @@ use Prim.Native.Nat.{ℕ}
 use Rattle.float.specs.Narrow.{float_words, any_large}
 use Rattle.rym1.specs.Bytes.{splice, words_bytes}
 use Rattle.rtm1.specs.Node.{node_words, node_bytes}
-use borrow.Author.Tests.{not-false}
 use Rattle.node.proofs.out_node.Goals as goal
 
 pub returns-then-not-narrow_all : goal.returns-then-not-narrow_all

@@ -1,9 +1,7 @@
 -- `ray::ray_triangle_t` meets its contract: at each return the calls' results stand for the definition's parts, and the tests on the way decide whether it is a miss. Assumes nothing.
-use lib.Ieee.{lt, le}
-use borrow.Author.Tests.{not-true, not-false}
-use Rattle.float.specs.Number.{zero64, one64}
+use Rattle.float.specs.Number.{one64}
 use Rattle.filling.specs.Vector.{times, over}
-use Rattle.filling.specs.Ray.{eps, misses, ray}
+use Rattle.filling.specs.Ray.{misses, ray}
 use Rattle.ray.proofs.ray_triangle_t.Goals as goal
 
 pub returns-then-abs : goal.returns-then-abs

@@ -20,7 +20,7 @@ loop-t-init c = (
 )
 
 pub overflow_cast-i : goal.overflow_cast-i
-overflow_cast-i c = omega (arith, c.shared_slice_known-in-loop-t-1.given c.loop-t.t)
+overflow_cast-i c = omega (arith, c.type_inv.list c.loop-t.t)
 
 pub entry-requires : goal.entry-requires
 entry-requires c =

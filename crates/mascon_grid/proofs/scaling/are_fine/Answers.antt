@@ -1,5 +1,4 @@
 -- `mascon_grid::scaling::are_fine` meets its contract: each way out rewrites with the test that led there. Assumes nothing.
-use borrow.Author.Tests.{not-true, not-false}
 use Rattle.mascon_grid.proofs.scaling.are_fine.Goals as goal
 
 pub returns-then-not-is_finite : goal.returns-then-not-is_finite

@@ -2,7 +2,6 @@
 use mathlib.Core.Path.{refl, sym, ap, ◌∙◌}
 use mathlib.Core.Bool.{true≢false}
 use native.Mathlib.Omega.{arith}
-use borrow.Author.Tests.{not-true, not-false}
 use Rattle.mascon_grid.specs.Scaled.{scaled_point}
 use Rattle.mascon_grid.proofs.ScalingLoops.{scaling_start, scaling_stop, scaling_turn, scaling_end}
 use Rattle.mascon_grid.proofs.scaling.scale_masses.Goals as goal

@@ -1,7 +1,4 @@
 -- `mascon_grid::scaling::scale_of` meets its contract: each way out rewrites with the tests that led there. Assumes nothing.
-use lib.Ieee.{lt}
-use borrow.Author.Tests.{not-true, not-false}
-use Rattle.float.specs.Number.{zero64}
 use Rattle.filling.specs.Fill.{scale_of}
 use Rattle.mascon_grid.proofs.scaling.scale_of.Goals as goal
 

@@ -1,7 +1,5 @@
 -- `ray::quick::quick_miss` meets its contract. Assumes nothing.
-use lib.Ieee.{le}
-use borrow.Author.Tests.{not-true, not-false}
-use Rattle.float.specs.Number.{zero64, one64}
+use Rattle.float.specs.Number.{one64}
 use Rattle.filling.specs.Vector.{minus, times, over}
 use native.Mathlib.Omega.{arith}
 use Rattle.filling.specs.Lists.{float, vec3, triangle}

@@ -1,7 +1,6 @@
 -- `ray::quick::skips` meets its contract: the quick test answers for the ray's. Assumes nothing.
 use mathlib.Core.Path.{sym, ◌∙◌}
 use mathlib.Core.Bool.{true≢false}
-use borrow.Author.Tests.{not-false}
 use Rattle.ray.proofs.QuickLaws.{quick_misses}
 use Rattle.ray.proofs.quick.skips.Goals as goal
 

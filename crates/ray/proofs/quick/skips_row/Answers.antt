@@ -1,7 +1,6 @@
 -- `ray::quick::skips_row` meets its contract: the quick test knows no x, and answers for the ray's at each. Assumes nothing.
 use mathlib.Core.Path.{sym, ◌∙◌}
 use mathlib.Core.Bool.{true≢false}
-use borrow.Author.Tests.{not-false}
 use Rattle.ray.proofs.QuickLaws.{row_misses}
 use Rattle.ray.proofs.quick.skips_row.Goals as goal
 
