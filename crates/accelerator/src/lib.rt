@@ -8,44 +8,30 @@ ghost use Rattle.filling.specs.Inside as def;
 use filling::{Bounds, Indices, Triangle, Vec3};
 use float::axis::axis_index;
 use float::number::{scalar_max, scalar_min};
-use model::triangle_at;
+use model::{all_axes, each_axis, sub, triangle_at};
 
 // The box of nothing.
 fn unbounded() -> Bounds
     ensures { result ≡ def.unbounded }
 {
-    let most = 1.0 / 0.0;
-    let least = -1.0 / 0.0;
-    let min = Vec3 {
-        x: most,
-        y: most,
-        z: most,
-    };
-    let max = Vec3 {
-        x: least,
-        y: least,
-        z: least,
-    };
-    Bounds { min, max }
+    Bounds {
+        min: all_axes(f64::INFINITY),
+        max: all_axes(f64::NEG_INFINITY),
+    }
 }
 
 // The box with one more point.
+#[tactic(auto, unfolding(filling::specs::Inside::with_point))]
 fn with_point(b: Bounds, p: Vec3) -> Bounds
     ensures { result ≡ def.with_point b p }
 {
-    let min = Vec3 {
-        x: scalar_min(b.min.x, p.x),
-        y: scalar_min(b.min.y, p.y),
-        z: scalar_min(b.min.z, p.z),
-    };
-    let max = Vec3 {
-        x: scalar_max(b.max.x, p.x),
-        y: scalar_max(b.max.y, p.y),
-        z: scalar_max(b.max.z, p.z),
-    };
-    Bounds { min, max }
+    Bounds {
+        min: each_axis(scalar_min, b.min, p),
+        max: each_axis(scalar_max, b.max, p),
+    }
 }
 
+#[tactic(auto, unfolding(filling::specs::Inside::with_triangle))]
 fn with_triangle(b: Bounds, t: Triangle) -> Bounds
     ensures { result ≡ def.with_triangle b t }
 {
@@ -53,20 +39,18 @@ fn with_triangle(b: Bounds, t: Triangle) -> Bounds
 }
 
 // The box of a mesh.
+#[tactic(auto, using(filling::proofs::Lists::triangles_more), unfolding(filling::specs::Inside::bounds, filling::specs::Inside::bounds_from, filling::specs::Lists::mesh, filling::specs::Lists::triangles_at))]
 pub fn bounds_of(s: &[u8]) -> Bounds
     ensures { result ≡ def.bounds (mesh s.now) }
 {
-    let n = s.len() / 72;
     let mut b = unbounded();
-    let mut i: usize = 0;
-    while i < n {
-        let t = triangle_at(s, 72 * i);
-        b = with_triangle(b, t);
-        i += 1;
+    for i in 0..s.len() / 72 {
+        b = with_triangle(b, triangle_at(s, 72 * i));
     }
     b
 }
 
+#[tactic(auto, unfolding(filling::specs::Inside::margin))]
 fn margin(least: f64, greatest: f64) -> f64
     ensures { result ≡ def.margin least greatest }
 {
@@ -74,23 +58,15 @@ fn margin(least: f64, greatest: f64) -> f64
 }
 
 // The box with its sides moved outward.
+#[tactic(auto, unfolding(filling::specs::Inside::padded, filling::specs::Vector::sub))]
 pub fn padded(b: Bounds) -> Bounds
     ensures { result ≡ def.padded b }
 {
-    let x = margin(b.min.x, b.max.x);
-    let y = margin(b.min.y, b.max.y);
-    let z = margin(b.min.z, b.max.z);
-    let min = Vec3 {
-        x: b.min.x - x,
-        y: b.min.y - y,
-        z: b.min.z - z,
-    };
-    let max = Vec3 {
-        x: b.max.x + x,
-        y: b.max.y + y,
-        z: b.max.z + z,
-    };
-    Bounds { min, max }
+    let by = each_axis(margin, b.min, b.max);
+    Bounds {
+        min: sub(b.min, by),
+        max: each_axis(|v, m| v + m, b.max, by),
+    }
 }
 
 fn scaled(low: f64, high: f64, v: f64) -> f64
@@ -100,6 +76,7 @@ fn scaled(low: f64, high: f64, v: f64) -> f64
 }
 
 // The indices of a point.
+#[tactic(auto, unfolding(filling::specs::Inside::indices))]
 pub fn indices(b: Bounds, p: Vec3) -> Indices
     ensures { result ≡ def.indices b p }
 {
@@ -110,30 +87,11 @@ pub fn indices(b: Bounds, p: Vec3) -> Indices
 }
 
 // Whether the ranges from low to high hold the indices, on x only the upper end.
+#[tactic(auto, unfolding(filling::specs::Inside::reached))]
 fn reached(at: Indices, low: Indices, high: Indices) -> bool
     ensures { result ≡ def.reached at low high }
 {
-    if at.j < low.j {
-        return false;
-    }
-    if high.j < at.j {
-        return false;
-    }
-    if at.k < low.k {
-        return false;
-    }
-    if high.k < at.k {
-        return false;
-    }
-    at.i <= high.i
-}
-
-// Whether the triangle is a candidate for a point with these indices.
-pub fn candidate(b: Bounds, at: Indices, t: Triangle) -> bool
-    ensures { result ≡ def.candidate b at t }
-{
-    let own = with_triangle(unbounded(), t);
-    reached(at, indices(b, own.min), indices(b, own.max))
+    low.j <= at.j && at.j <= high.j && low.k <= at.k && at.k <= high.k && at.i <= high.i
 }
 
 // A triangle's ranges on each axis: its lower and its upper indices.
@@ -143,16 +101,28 @@ pub struct Ranges {
     pub high: Indices,
 }
 
+#[tactic(auto, unfolding(filling::specs::Inside::low_of, filling::specs::Inside::high_of, filling::specs::Inside::bounds, filling::specs::Inside::bounds_from))]
 pub fn ranges_of(b: Bounds, t: Triangle) -> Ranges
     ensures { result ≡ record { low = def.low_of b t; high = def.high_of b t } }
 {
     let own = with_triangle(unbounded(), t);
-    let low = indices(b, own.min);
-    let high = indices(b, own.max);
-    Ranges { low, high }
+    Ranges {
+        low: indices(b, own.min),
+        high: indices(b, own.max),
+    }
+}
+
+// Whether the triangle is a candidate for a point with these indices.
+#[tactic(auto, unfolding(filling::specs::Inside::candidate, filling::specs::Inside::low_of, filling::specs::Inside::high_of))]
+pub fn candidate(b: Bounds, at: Indices, t: Triangle) -> bool
+    ensures { result ≡ def.candidate b at t }
+{
+    let own = ranges_of(b, t);
+    reached(at, own.low, own.high)
 }
 
 // The upper end of its range on x alone.
+#[tactic(auto, unfolding(filling::specs::Inside::high_of, filling::specs::Inside::indices, filling::specs::Inside::bounds, filling::specs::Inside::bounds_from))]
 pub fn upper_x(b: Bounds, t: Triangle) -> u32
     ensures { result ≡ (def.high_of b t).i }
 {

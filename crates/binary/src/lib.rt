@@ -1,40 +1,26 @@
 // Little-endian numbers in a slice of bytes (binary.rs, and the closures u16_at and u32_at of mascon_tree.rs).
 #![tactic(auto)]
 
-ghost use Rattle.std.specs.Prelude.{◌≡◌, false, ◌+◌, ◌≤◌, ◌<◌, length, replicate};
+ghost use Rattle.std.specs.Prelude.{◌≡◌, false, ◌+◌, ◌*◌, ◌≤◌, ◌<◌, length, replicate};
 ghost use Rattle.std.specs.Float.{binary64};
 ghost use Rattle.std.specs.Float.Ieee.{of_bits, nan_bits};
 ghost use Rattle.binary.specs.Words.{Narrowing};
 ghost use Rattle.rym1.specs.Bytes.{word16, word32, word64, le32, le64, words_bytes, splice};
 
-use float::Narrowed;
 use float::pattern::f32_to_bits;
-
-// A byte as a wider number: `wide(s[i])` asks only for the index.
-fn wide(x: u8) -> u32
-    ensures { (result ≡ x) × (result < 256) }
-{
-    x as u32
-}
 
 pub fn u16_at(s: &[u8], at: usize) -> u32
     requires { at + 2 ≤ length s.now }
     ensures { (result ≡ word16 s.now at) × (result < 65536) }
 {
-    let a = wide(s[at]);
-    let b = wide(s[at + 1]);
-    a + 256 * b
+    u16::from_le_bytes([s[at], s[at + 1]]) as u32
 }
 
 pub fn u32_at(s: &[u8], at: usize) -> u32
     requires { at + 4 ≤ length s.now }
     ensures { result ≡ word32 s.now at }
 {
-    let a = wide(s[at]);
-    let b = wide(s[at + 1]);
-    let c = wide(s[at + 2]);
-    let d = wide(s[at + 3]);
-    a + 256 * b + 65536 * c + 16777216 * d
+    u32::from_le_bytes([s[at], s[at + 1], s[at + 2], s[at + 3]])
 }
 
 pub fn u64_at(s: &[u8], at: usize) -> u64
@@ -66,13 +52,11 @@ pub fn out_u32(s: &mut [u8], at: usize, value: u32)
     requires { at + 4 ≤ length s.old }
     ensures { s.new ≡ splice s.old at (le32 value) }
 {
-    let v1 = value / 256;
-    let v2 = v1 / 256;
-    let v3 = v2 / 256;
-    s[at] = (value % 256) as u8;
-    s[at + 1] = (v1 % 256) as u8;
-    s[at + 2] = (v2 % 256) as u8;
-    s[at + 3] = (v3 % 256) as u8;
+    let [a, b, c, d] = value.to_le_bytes();
+    s[at] = a;
+    s[at + 1] = b;
+    s[at + 2] = c;
+    s[at + 3] = d;
 }
 
 pub fn out_u64(s: &mut [u8], at: usize, value: u64)
@@ -85,32 +69,27 @@ pub fn out_u64(s: &mut [u8], at: usize, value: u64)
     out_u32(s, at + 4, high as u32);
 }
 
-// The words of some numbers, up to the first that is too large. Answers whether there is none.
-pub fn narrow_all(xs: &[f64], words: &mut [u32]) -> bool
+// The words of some numbers; none where one is too large, and up to that one they are written.
+pub fn narrow_all(xs: &[f64], words: &mut [u32]) -> Option<()>
     requires { length words.old ≡ length xs.now }
     ensures { Narrowing xs.now result words.new }
 {
-    let mut i: usize = 0;
-    while i < xs.len() {
-        let narrowed = float::narrow(xs[i]);
-        let Narrowed::Finite(v) = narrowed else {
-            return false;
+    for i in 0..xs.len() {
+        let Some(v) = float::narrow(xs[i]) else {
+            return None;
         };
         words[i] = f32_to_bits(v);
-        i += 1;
     }
-    true
+    Some(())
 }
 
-// Sixteen words, from byte 0 on.
-pub fn out_words(out: &mut [u8], words: [u32; 16])
-    requires { 64 ≤ length out.old }
-    ensures { out.new ≡ splice out.old 0 (words_bytes words) }
+// Words one behind the other, from a byte on.
+pub fn out_words<const N: usize>(out: &mut [u8], at: usize, words: [u32; N])
+    requires { at + 4 * N ≤ length out.old }
+    ensures { out.new ≡ splice out.old at (words_bytes words.entry) }
 {
-    let mut i: usize = 0;
-    while i < 16 {
-        out_u32(out, 4 * i, words[i]);
-        i += 1;
+    for i in 0..N {
+        out_u32(out, at + 4 * i, words[i]);
     }
 }
 
@@ -118,9 +97,5 @@ pub fn out_words(out: &mut [u8], words: [u32; 16])
 pub fn clear(s: &mut [u8])
     ensures { s.new ≡ replicate (length s.old) 0 }
 {
-    let mut i: usize = 0;
-    while i < s.len() {
-        s[i] = 0;
-        i += 1;
-    }
+    s.fill(0);
 }

@@ -1,7 +1,7 @@
 // Boxes of cells: what a box becomes, and how it is split.
 #![tactic(auto)]
 
-ghost use Rattle.std.specs.Prelude.{◌≡◌};
+ghost use Rattle.std.specs.Prelude.{◌≡◌, ◌≤◌, ◌+◌, ◌-◌, ◌/◌};
 ghost use Rattle.rtm1.specs.Boxes.{Proper, whole, widest, lower, upper};
 ghost use Rattle.rtm1.specs.Tree.{kind_of};
 
@@ -24,7 +24,9 @@ pub fn whole(g: u32) -> Cells
     }
 }
 
+// That a box has cells (`Proper`) stays a clause: `Cells` is the definitions' type, and the root box of a grid of 0 has none.
 // What a box of n points becomes.
+#[tactic(auto, unfolding(rtm1::specs::Tree::kind_of))]
 pub fn kind_of(n: u32, b: Cells) -> Kind
     requires { Proper b }
     ensures { result ≡ kind_of n b }
@@ -32,22 +34,14 @@ pub fn kind_of(n: u32, b: Cells) -> Kind
     if n == 0 {
         return Kind::Empty;
     }
-    if n <= MASCON_LEAF_POINTS {
-        return Kind::Leaf;
-    }
-    if b.x1 - b.x0 > 1 {
-        return Kind::Split;
-    }
-    if b.y1 - b.y0 > 1 {
-        return Kind::Split;
-    }
-    if b.z1 - b.z0 > 1 {
+    if n > MASCON_LEAF_POINTS && (b.x1 - b.x0 > 1 || b.y1 - b.y0 > 1 || b.z1 - b.z0 > 1) {
         return Kind::Split;
     }
     Kind::Leaf
 }
 
 // The widest axis, ties to x, then y.
+#[tactic(auto, unfolding(rtm1::specs::Boxes::widest))]
 fn widest(b: Cells) -> Axis
     requires { Proper b }
     ensures { result ≡ widest b }
@@ -55,11 +49,8 @@ fn widest(b: Cells) -> Axis
     let x = b.x1 - b.x0;
     let y = b.y1 - b.y0;
     let z = b.z1 - b.z0;
-    if y <= x {
-        if z <= x {
-            return Axis::X;
-        }
-        return Axis::Z;
+    if y <= x && z <= x {
+        return Axis::X;
     }
     if z <= y {
         return Axis::Y;
@@ -67,30 +58,12 @@ fn widest(b: Cells) -> Axis
     Axis::Z
 }
 
-fn lower(axis: Axis, b: Cells) -> Cells
-    requires { Proper b }
-    ensures { result ≡ lower axis b }
+// Where the lower half of low up to high ends and the upper one starts.
+fn middle(low: u32, high: u32) -> u32
+    requires { low ≤ high }
+    ensures { result ≡ low + (high - low) / 2 }
 {
-    let mut c = b;
-    match axis {
-        Axis::X => c.x1 = b.x0 + (b.x1 - b.x0) / 2,
-        Axis::Y => c.y1 = b.y0 + (b.y1 - b.y0) / 2,
-        Axis::Z => c.z1 = b.z0 + (b.z1 - b.z0) / 2,
-    }
-    c
-}
-
-fn upper(axis: Axis, b: Cells) -> Cells
-    requires { Proper b }
-    ensures { result ≡ upper axis b }
-{
-    let mut c = b;
-    match axis {
-        Axis::X => c.x0 = b.x0 + (b.x1 - b.x0) / 2,
-        Axis::Y => c.y0 = b.y0 + (b.y1 - b.y0) / 2,
-        Axis::Z => c.z0 = b.z0 + (b.z1 - b.z0) / 2,
-    }
-    c
+    low + (high - low) / 2
 }
 
 #[derive(Clone, Copy)]
@@ -104,8 +77,27 @@ pub fn halves(b: Cells) -> Pair
     requires { Proper b }
     ensures { (result.low ≡ lower (widest b) b) × (result.high ≡ upper (widest b) b) }
 {
-    let axis = widest(b);
-    let low = lower(axis, b);
-    let high = upper(axis, b);
-    Pair { low, high }
+    match widest(b) {
+        Axis::X => {
+            let x = middle(b.x0, b.x1);
+            Pair {
+                low: Cells { x1: x, ..b },
+                high: Cells { x0: x, ..b },
+            }
+        }
+        Axis::Y => {
+            let y = middle(b.y0, b.y1);
+            Pair {
+                low: Cells { y1: y, ..b },
+                high: Cells { y0: y, ..b },
+            }
+        }
+        Axis::Z => {
+            let z = middle(b.z0, b.z1);
+            Pair {
+                low: Cells { z1: z, ..b },
+                high: Cells { z0: z, ..b },
+            }
+        }
+    }
 }

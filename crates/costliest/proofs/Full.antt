@@ -1,13 +1,12 @@
 -- Boxes whose every cell is occupied: their kind, their nodes by their halves, and that the numbers fit. Assumes nothing.
-use Prim.Native.Nat.{ℕ, ◌+◌, ◌*◌, ◌≤◌}
-use mathlib.Core.Path.{◌≡◌, refl, sym, ap, ◌∙◌}
-use native.Mathlib.Nat.{mul-le-mul}
+use Prim.Native.Nat.{ℕ, ◌+◌, ◌≤◌, ◌<◌}
+use mathlib.Core.Path.{◌≡◌, refl, sym, ap, ◌∙◌, subst}
 use native.Mathlib.Omega.{arith}
 use Rattle.rym1.specs.File.{cell}
 use Rattle.rtm1.specs.declared.Cells.{Cells}
-use Rattle.rtm1.specs.declared.Axis.TheVariants.{X, Y, Z}
+use Rattle.rtm1.specs.declared.Kind.{Kind}
 use Rattle.rtm1.specs.declared.Kind.TheVariants.{Empty, Leaf, Split}
-use Rattle.rtm1.specs.Boxes.{Within, width, cells, lower, upper, widest}
+use Rattle.rtm1.specs.Boxes.{Within, cells, lower, upper, widest}
 use Rattle.rtm1.specs.Tree.{kind_of, kind_at, tree_of, node_count}
 use Rattle.rtm1.proofs.Boxes.{Halves, halves}
 use Rattle.rtm1.proofs.Growth.{tree_empty, tree_leaf, tree_split}
@@ -22,13 +21,12 @@ every_full g b x y z h₁ h₂ h₃ h₄ h₅ h₆ = (cell g x y z, _, refl)
 pub kind_every : (b : Cells) → kind_at every 256 b ≡ kind_of (cells b) b
 kind_every b = ap (λ (n : ℕ). kind_of n b) (full_visit every 256 b (every_full 256 b))
 
-pub one_empty : (b : Cells) → kind_of (cells b) b ≡ Empty → 1 ≡ node_count (tree_of every 256 b)
+-- a box that is not split
+pub one_node : (b : Cells) (n : ℕ) (k : Kind) → n ≡ cells b → k ≡ kind_of n b → (k ≡ Split → ⊥) → 1 ≡ node_count (tree_of every 256 b)
 unfolding node_count
-one_empty b e = sym (ap node_count (tree_empty every 256 b (kind_every b ∙ e)))
-
-pub one_leaf : (b : Cells) → kind_of (cells b) b ≡ Leaf → 1 ≡ node_count (tree_of every 256 b)
-unfolding node_count
-one_leaf b e = sym (ap node_count (tree_leaf every 256 b (kind_every b ∙ e)))
+one_node b n Empty e m h = sym (ap node_count (tree_empty every 256 b (kind_every b ∙ ap (λ (v : ℕ). kind_of v b) (sym e) ∙ sym m)))
+one_node b n Leaf e m h = sym (ap node_count (tree_leaf every 256 b (kind_every b ∙ ap (λ (v : ℕ). kind_of v b) (sym e) ∙ sym m)))
+one_node b n Split e m h = absurd (h refl)
 
 pub split_halves : (b : Cells) → Within 256 b → kind_of (cells b) b ≡ Split → Halves 256 b
 split_halves b w e = halves 256 (cells b) b e w
@@ -46,9 +44,24 @@ same_nodes b c w v a = full_alike every every 256 256 b w c v a (every_full 256 
 pub nodes_fit : (b : Cells) → Within 256 b → node_count (tree_of every 256 b) ≤ 11184809
 nodes_fit b w = nodes_exact every 256 (omega arith) b w
 
-pub cells_fit : (b : Cells) → Within 256 b → (width Y b * width X b ≤ 65536) × (cells b ≤ 16777216)
-cells_fit b w =
-    let hz : width Z b ≤ 256 = omega arith in
-    let hy : width Y b ≤ 256 = omega arith in
-    let hx : width X b ≤ 256 = omega arith in
-    (mul-le-mul hy hx, mul-le-mul hz (mul-le-mul hy hx))
+-- what is known of the halves of a box
+pub record Parts (b low high : Cells) : Type 0 where
+  pub low_in : Within 256 low
+  pub high_in : Within 256 high
+  pub low_fewer : cells low < cells b
+  pub high_fewer : cells high < cells b
+  pub sum : 1 + node_count (tree_of every 256 low) + node_count (tree_of every 256 high) ≡ node_count (tree_of every 256 b)
+  pub fits : node_count (tree_of every 256 b) ≤ 11184809
+
+pub parts : (b low high : Cells) (n : ℕ) (k : Kind) → Within 256 b → n ≡ cells b → k ≡ kind_of n b → k ≡ Split → low ≡ lower (widest b) b → high ≡ upper (widest b) b → Parts b low high
+parts b low high n k w e m s l h =
+    let split : kind_of (cells b) b ≡ Split = sym (m ∙ ap (λ (v : ℕ). kind_of v b) e) ∙ s in
+    let two : Halves 256 b = split_halves b w split in
+    record {
+      low_in = subst (λ (q : Cells). Within 256 q) (sym l) two.low.within;
+      high_in = subst (λ (q : Cells). Within 256 q) (sym h) two.high.within;
+      low_fewer = subst (λ (q : Cells). cells q < cells b) (sym l) two.low.fewer;
+      high_fewer = subst (λ (q : Cells). cells q < cells b) (sym h) two.high.fewer;
+      sum = nodes_halves b w split low high l h;
+      fits = nodes_fit b w;
+    }

@@ -1,4 +1,5 @@
 -- Laws of the file's bytes: one record more of a row, one row more; and the two calls' outcomes. Assumes nothing.
+use Rattle.std.specs.Prelude.{Err, Ok}
 use Prim.Native.Nat.{ℕ, ◌+◌, ◌*◌, ◌/◌, ◌%◌, ◌≤◌, ◌<◌}
 use mathlib.Core.Path.{◌≡◌, sym, ap, ◌∙◌}
 use mathlib.Core.List.{List, [], ◌∷◌, ◌++◌, append-nil}
@@ -15,11 +16,10 @@ use Rattle.rym1.specs.Causes.{number, when, first, outcome, refuse}
 use Rattle.rym1.specs.File.{point_bytes, points_bytes, size, cube, grid_cause}
 use Rattle.rym1.specs.Cells.{cell_point, at_cell, records_from, records}
 use Rattle.rym1.proofs.Bytes.{length_words, length_splice, splice_none, behind}
-use Rattle.rym1.proofs.Causes.{first_found, refuse_found}
+use Rattle.rym1.proofs.Causes.{number_pos, first_found, refuse_found}
 use Rattle.rym1.proofs.Accepted.{grid_right}
 use Rattle.rym1.proofs.Points.{length_points, points_append}
 use Rattle.rym1.proofs.Cells.{records_split, cube_few}
-use Rattle.rtm1.specs.declared.Costly.TheVariants.{Refused, Done}
 use Rattle.rtm1.specs.Boxes.{Within, whole}
 use Rattle.rtm1.specs.Tree.{tree_of, node_count}
 use Rattle.rtm1.specs.Costliest.{unit, every_cell, costliest_header, costliest_file, cost, costliest, write_cause, write_costliest, told_cost}
@@ -103,11 +103,11 @@ rows_start s g = rw (zero-mul g) (run_start s 64 g 0)
 
 -- ---- outcomes
 
-pub cost_refused : (g : ℕ) (cause : Cause) → number cause ≡ grid_cause g → 0 < grid_cause g → told_cost (Refused cause) ≡ costliest g
+pub cost_refused : (g : ℕ) (cause : Cause) → number cause ≡ grid_cause g → told_cost (Err cause) ≡ costliest g
 unfolding told_cost costliest
-cost_refused g cause e h = rw e (sym (refuse_found (grid_cause g) (cost 0 0) _ h))
+cost_refused g cause e = rw e (sym (refuse_found (grid_cause g) (cost 0 0) _ (rw e at (number_pos cause))))
 
-pub cost_done : (g n k : ℕ) → grid_cause g ≡ 0 → n ≡ node_count (tree_of every 256 (whole g)) → k ≡ cube g → told_cost (Done (cost n (64 + 80 * n + 4 * k))) ≡ costliest g
+pub cost_done : (g n k : ℕ) → grid_cause g ≡ 0 → n ≡ node_count (tree_of every 256 (whole g)) → k ≡ cube g → told_cost (Ok (cost n (64 + 80 * n + 4 * k))) ≡ costliest g
 unfolding told_cost costliest refuse
 cost_done g n k ok e ek =
     let (pos, few) = grid_right g ok in
@@ -115,9 +115,11 @@ cost_done g n k ok e ek =
     let same = e ∙ costliest_counted g pos few every 256 within (every_full 256 (whole g)) in
     rw (ok, costliest_bytes_law g pos few, ← same, ek)
 
-pub write_refused : (g : ℕ) (out : List ℕ) (cause : Cause) → number cause ≡ grid_cause g → 0 < grid_cause g → outcome (number cause) out ≡ write_costliest g out
+pub write_refused : (g : ℕ) (out : List ℕ) (cause : Cause) → number cause ≡ grid_cause g → outcome (number cause) out ≡ write_costliest g out
 unfolding write_costliest write_cause
-write_refused g out cause e h = rw (e, first_found (grid_cause g) (when _ 9) h) (sym (refuse_found (grid_cause g) out _ h))
+write_refused g out cause e =
+    let found = rw e at (number_pos cause) in
+    rw (e, first_found (grid_cause g) (when _ 9) found) (sym (refuse_found (grid_cause g) out _ found))
 
 module _ (g : ℕ) (out : List ℕ) (k : ℕ) (ok : grid_cause g ≡ 0) (ek : k ≡ cube g) where
   pub write_9 : length out < 64 + 16 * k → outcome 9 out ≡ write_costliest g out

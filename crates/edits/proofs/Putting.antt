@@ -1,15 +1,11 @@
 -- What put answers and leaves, way by way. Assumes nothing.
-use Prim.Native.Nat.{ℕ, zero, suc, ◌+◌, ◌*◌, ◌≤◌, ◌<◌}
+use Prim.Native.Nat.{ℕ, suc, ◌+◌, ◌*◌, ◌≤◌, ◌<◌}
 use mathlib.Core.Path.{◌≡◌, refl, sym, ap, ◌∙◌}
-use mathlib.Core.Bool.{Bool, true, not}
-use mathlib.Core.List.{List, [], ◌∷◌}
+use mathlib.Core.List.{List}
 use native.Mathlib.Omega.{arith}
 use lib.ListN.{length}
-use lib.Dec.{eqb}
 use Rattle.rym1.specs.declared.Point.{Point}
-use Rattle.rym1.specs.declared.Cause.{Cause}
 use Rattle.rym1.specs.declared.Cause.TheVariants.{BufferFull}
-use Rattle.rym1.specs.declared.Answer.TheVariants.{Refused}
 use Rattle.rym1.specs.Bytes.{word, splice}
 use Rattle.rym1.specs.Causes.{number, told, when, first, Outcome, outcome, refuse}
 use Rattle.rym1.specs.File.{grid, count, size, point_at, points, point_bytes, cell, cell_of, cube, place_cause, mass_cause, point_cause}
@@ -17,12 +13,11 @@ use Rattle.rym1.specs.Cells.{look, masses_of, cell_point}
 use Rattle.rym1.specs.Open.{Buffers, both}
 use Rattle.rym1.specs.Journal.{push_cause, entry_words, pushed}
 use Rattle.rym1.specs.Edits.{lower, inserted, changed, change, buffers_cause, is_vacant, room_cause, put_words, put_cause, edited, put}
-use Rattle.rym1.proofs.Causes.{first_zero_l, first_zero_r, first_found, first_none, refuse_found}
+use Rattle.rym1.proofs.Causes.{first_zero_l, first_zero_r, first_found, first_none, first_assoc, refuse_found}
 use Rattle.rym1.proofs.Accepted.{Inside, accepted, sound}
 use Rattle.rym1.proofs.Points.{length_point}
 use Rattle.rym1.proofs.Cells.{point_of_cell}
-use Rattle.points.proofs.Refused.{refused}
-use Rattle.working.specs.declared.find.Spot.TheVariants.{Held, Vacant}
+use Rattle.std.specs.Prelude.{Ok, Err}
 use Rattle.working.specs.Spotted.{Spotted}
 use Rattle.edits.specs.Calls.{Sound, put_rest}
 use Rattle.edits.proofs.Rooms.{room_full, room_left, room_more}
@@ -39,27 +34,27 @@ size_more n k e = omega (arith, e)
 
 module _ (f j : List ℕ) (c i : ℕ) (p : Point) (s : Sound f j) (own : p ≡ cell_point (grid f) c (masses_of p)) where
   -- over the record at index i
-  pub put_over_done : Spotted f c (Held i) → (n a b t : ℕ) (f' j' : List ℕ) → n ≡ count f
+  pub put_over_done : Spotted f c (Ok i) → (n a b t : ℕ) (f' j' : List ℕ) → n ≡ count f
       → a ≡ word 4 f (64 + 16 * i + 8) → b ≡ word 4 f (64 + 16 * i + 12) → f' ≡ splice f (64 + 16 * i) (point_bytes p)
-      → j' ≡ pushed j ((2147483648 + c) ∷ a ∷ b ∷ []) → t ≡ 64 + 16 * n → outcome t (both f' j') ≡ put_rest f j c (masses_of p)
-  unfolding put_rest change changed room_cause is_vacant put_words entry_words edited when refuse masses_of point_at size
+      → j' ≡ pushed j (entry_words 2 c a b) → t ≡ 64 + 16 * n → outcome t (both f' j') ≡ put_rest f j c (masses_of p)
+  unfolding put_rest change changed room_cause is_vacant put_words edited when refuse masses_of point_at size
   put_over_done spot n a b t f' j' en ea eb ef ej et =
       let file : f' ≡ splice f (size i) (point_bytes (cell_point (grid f) c (masses_of p))) = ef ∙ ap (λ (q : Point). splice f (64 + 16 * i) (point_bytes q)) own in
       let within : size i ≤ length f = omega (arith, spot.0, (accepted f s.file).room) in
       let same : t ≡ size (count (splice f (size i) (point_bytes (cell_point (grid f) c (masses_of p))))) =
       et ∙ ap size (en ∙ sym (count_replaced f i (point_bytes (cell_point (grid f) c (masses_of p))) within)) in
-      let entry : j' ≡ pushed j ((2147483648 + c) ∷ word 4 f (64 + 16 * i + 8) ∷ word 4 f (64 + 16 * i + 12) ∷ []) = ej ∙ (λ k. pushed j ((2147483648 + c) ∷ ea k ∷ eb k ∷ [])) in
+      let entry : j' ≡ pushed j (entry_words 2 c (word 4 f (64 + 16 * i + 8)) (word 4 f (64 + 16 * i + 12))) = ej ∙ (λ k. pushed j (entry_words 2 c (ea k) (eb k))) in
       rw spot.1 (λ k. outcome (same k) (both (file k) (entry k)))
 
   -- into an empty one, i records before it
-  module _ (spot : Spotted f c (Vacant i)) (n : ℕ) (en : n ≡ count f) where
-    pub put_new_full : length f < 80 + 16 * n → outcome (told (Refused BufferFull)) (both f j) ≡ put_rest f j c (masses_of p)
+  module _ (spot : Spotted f c (Err i)) (n : ℕ) (en : n ≡ count f) where
+    pub put_new_full : length f < 80 + 16 * n → outcome (told (Err BufferFull)) (both f j) ≡ put_rest f j c (masses_of p)
     unfolding put_rest told number refuse outcome
     put_new_full h = rw (spot.1, room_full f n en h)
 
-    pub put_new_done : 80 + 16 * n ≤ length f → (t : ℕ) (f' j' : List ℕ) → f' ≡ inserted f i (point_bytes p) → j' ≡ pushed j ((1073741824 + c) ∷ 0 ∷ 0 ∷ [])
+    pub put_new_done : 80 + 16 * n ≤ length f → (t : ℕ) (f' j' : List ℕ) → f' ≡ inserted f i (point_bytes p) → j' ≡ pushed j (entry_words 1 c 0 0)
         → t ≡ 64 + 16 * (n + 1) → outcome t (both f' j') ≡ put_rest f j c (masses_of p)
-    unfolding put_rest change changed put_words entry_words edited refuse
+    unfolding put_rest change changed put_words edited refuse
     put_new_done room t f' j' ef ej et =
         let new = point_bytes (cell_point (grid f) c (masses_of p)) in
         let more = room_more f n en room in
@@ -72,11 +67,6 @@ module _ (f j : List ℕ) (c i : ℕ) (p : Point) (s : Sound f j) (own : p ≡ c
         rw (spot.1, room_left f more) (λ k. outcome (same k) (both (file k) (ej k)))
 
 -- ---- the whole call
-
-first_assoc : (a b d : ℕ) → first (first a b) d ≡ first a (first b d)
-unfolding first
-first_assoc zero b d = refl
-first_assoc (suc a) b d = refl
 
 -- the record that the call's own numbers make
 abbrev pub own_point : ℕ → ℕ → ℕ → ℕ → ℕ → Point
@@ -95,12 +85,9 @@ module _ (f j : List ℕ) (x y z u v : ℕ) where
   past_11 = first (place_cause (grid f) x y z) (first (mass_cause u v) past_7)
 
   -- 1 to 7, 10, 11
-  pub way_buffers : (cause : Cause) {r : Bool} → number cause ≡ buffers_cause f j → r ≡ not (eqb (number cause) 0) → r ≡ true
-      → outcome (told (Refused cause)) (both f j) ≡ put f j x y z u v
-  unfolding told put_cause
-  way_buffers cause e t h =
-      let some = refused (number cause) t h in
-      put_refused (number cause) (e ∙ sym (first_found (buffers_cause f j) past_11 (rw e at some))) some
+  pub way_buffers : (k : ℕ) → k ≡ buffers_cause f j → 0 < k → outcome k (both f j) ≡ put f j x y z u v
+  unfolding put_cause
+  way_buffers k e h = put_refused k (e ∙ sym (first_found (buffers_cause f j) past_11 (rw e at h))) h
 
   module _ (ok : buffers_cause f j ≡ 0) (g a b : ℕ) (eg : g ≡ grid f) (ea : a ≡ u) (eb : b ≡ v) where
     own_cause : point_cause g (own_point x y z a b) ≡ first (place_cause (grid f) x y z) (mass_cause u v)
@@ -108,17 +95,15 @@ module _ (f j : List ℕ) (x y z u v : ℕ) where
     own_cause = λ i. first (place_cause (eg i) x y z) (mass_cause (ea i) (eb i))
 
     -- 6, 7
-    pub way_own : (cause : Cause) {r : Bool} → number cause ≡ point_cause g (own_point x y z a b) → r ≡ not (eqb (number cause) 0) → r ≡ true
-        → outcome (told (Refused cause)) (both f j) ≡ put f j x y z u v
-    unfolding told put_cause
-    way_own cause e t h =
-        let some = refused (number cause) t h in
-        let this : number cause ≡ first (place_cause (grid f) x y z) (mass_cause u v) = e ∙ own_cause in
-        put_refused (number cause)
-        (this ∙ sym (first_found (first (place_cause (grid f) x y z) (mass_cause u v)) past_7 (rw this at some))
+    pub way_own : (k : ℕ) → k ≡ point_cause g (own_point x y z a b) → 0 < k → outcome k (both f j) ≡ put f j x y z u v
+    unfolding put_cause
+    way_own k e h =
+        let this : k ≡ first (place_cause (grid f) x y z) (mass_cause u v) = e ∙ own_cause in
+        put_refused k
+        (this ∙ sym (first_found (first (place_cause (grid f) x y z) (mass_cause u v)) past_7 (rw this at h))
         ∙ first_assoc (place_cause (grid f) x y z) (mass_cause u v) past_7
         ∙ sym (first_none (buffers_cause f j) past_11 ok))
-        some
+        h
 
     module _ (fine : point_cause g (own_point x y z a b) ≡ 0) where
       place_fine : place_cause (grid f) x y z ≡ 0
@@ -128,13 +113,10 @@ module _ (f j : List ℕ) (x y z u v : ℕ) where
       mass_fine = first_zero_r (place_cause (grid f) x y z) (mass_cause u v) (sym own_cause ∙ fine)
 
       -- 13
-      pub way_full : (cause : Cause) {r : Bool} → number cause ≡ push_cause j → r ≡ not (eqb (number cause) 0) → r ≡ true
-          → outcome (told (Refused cause)) (both f j) ≡ put f j x y z u v
-      unfolding told put_cause first
-      way_full cause e t h =
-          let some = refused (number cause) t h in
-          put_refused (number cause)
-          (e ∙ sym (first_found (push_cause j) (room_cause f (look f (cell (grid f) x y z))) (rw e at some)) ∙ rw (ok, place_fine, mass_fine)) some
+      pub way_full : (k : ℕ) → k ≡ push_cause j → 0 < k → outcome k (both f j) ≡ put f j x y z u v
+      unfolding put_cause first
+      way_full k e h =
+          put_refused k (e ∙ sym (first_found (push_cause j) (room_cause f (look f (cell (grid f) x y z))) (rw e at h)) ∙ rw (ok, place_fine, mass_fine)) h
 
       pub own_inside : (g ≤ 256) × Inside g x y z
       own_inside = (rw eg (accepted f (buffers_sound f j ok).file).grid_few, (sound g (own_point x y z a b) fine).place)
@@ -150,3 +132,5 @@ module _ (f j : List ℕ) (x y z u v : ℕ) where
         way_put free e =
             let here : c ≡ cell (grid f) x y z = ec ∙ ap (λ (n : ℕ). cell n x y z) eg in
             e ∙ rw (here, ea, eb, ok, place_fine, mass_fine, free)
+
+pub ruleset ways = (way_buffers, way_own, way_full, way_put, own_inside, own_cell)

@@ -1,11 +1,11 @@
 -- What is left of a call's outcome once its first causes are passed, and what an edit of a cell stands on. Definitions only.
-use Rattle.std.specs.Prelude.{ℕ, ◌+◌, ◌-◌, ◌/◌, ◌%◌, ◌<◌, ◌≡◌, Bool, not, ◌&&◌, ◌||◌, List, get_or, eqb, leb}
+use Rattle.std.specs.Prelude.{ℕ, ◌<◌, ◌≡◌, Bool, not, ◌&&◌, ◌||◌, List, eqb, leb}
 use Rattle.std.proofs.Math.Option.{none, some}
 use Rattle.rym1.specs.Causes.{when, first, Outcome, refuse}
 use Rattle.rym1.specs.File.{grid, cube, finite, file_cause, work_cause}
 use Rattle.rym1.specs.Cells.{Masses, look}
 use Rattle.rym1.specs.Open.{Buffers, both}
-use Rattle.rym1.specs.Journal.{entries, entry_at, journal_cause, push_cause, last_entry, pushed, popped}
+use Rattle.rym1.specs.Journal.{Entry, entries, journal_cause, push_cause, last_entry, pushed, popped}
 use Rattle.rym1.specs.Edits.{change, is_vacant, room_cause, put_words, edited, remove_words, entry_cause, before}
 
 -- nothing is against the two buffers: 1 to 7, 10, 11
@@ -29,16 +29,12 @@ undo_rest f j =
     let s = look f (last_entry j).cell in
     refuse (first (entry_cause (grid f) (last_entry j) s) (room_cause f s)) (both f j) (edited (change f (last_entry j).cell (before (last_entry j))) (popped j))
 
--- the three words of the last entry
-pub record Last (j : List ℕ) (head cauchy elliptic : ℕ) : Type 0 where
+-- the last entry
+pub record Last (j : List ℕ) (e : Entry) : Type 0 where
   pub counted : 0 < entries j
-  pub is_head : head ≡ get_or j (entry_at (entries j - 1)) 0
-  pub is_cauchy : cauchy ≡ get_or j (entry_at (entries j - 1) + 1) 0
-  pub is_elliptic : elliptic ≡ get_or j (entry_at (entries j - 1) + 2) 0
+  pub is_last : e ≡ last_entry j
 
 -- 16, but for the cell's state: kind 0, bits 24 to 29 set, cell outside, mass not finite (kinds 2, 3)
-unfoldable pub entry_wrong : ℕ → ℕ → ℕ → ℕ → Bool
-entry_wrong g head cauchy elliptic =
-    eqb (head / 1073741824 % 4) 0
-    || (not (eqb (head / 16777216 % 64) 0)
-    || (leb (cube g) (head % 16777216) || (not (eqb (head / 1073741824 % 4) 1) && (not (finite cauchy) || not (finite elliptic)))))
+unfoldable pub entry_wrong : ℕ → Entry → Bool
+entry_wrong g e =
+    eqb e.kind 0 || (not (eqb e.gap 0) || (leb (cube g) e.cell || (not (eqb e.kind 1) && (not (finite e.cauchy) || not (finite e.elliptic)))))

@@ -1,97 +1,87 @@
-// Edits of a file in working form: put, remove, undo.
+// Edits of a file in working form: put, remove, undo. File and journal are two parameters, and no struct whose ghost fact is `Sound`: it would have to be
+// proved of the file between the write of a record and that of its entry, which no contract asks.
 #![tactic(auto)]
 
-ghost use Rattle.std.specs.Prelude.{◌≡◌, false, ◌+◌, ◌*◌, ◌%◌, ◌≤◌, ◌<◌};
+ghost use Rattle.std.specs.Prelude.{◌≡◌, false, IfOk, ◌+◌, ◌*◌, ◌%◌, ◌≤◌, ◌<◌};
 ghost use Rattle.std.specs.Float.{binary32};
 ghost use Rattle.std.specs.Float.Ieee.{to_bits};
-ghost use Rattle.rym1.specs.Causes.{number, told, outcome};
+ghost use Rattle.rym1.specs.Causes.{judged, told, when, outcome};
 ghost use Rattle.rym1.specs.File.{grid, cube};
 ghost use Rattle.rym1.specs.Cells.{masses_of, cell_point};
 ghost use Rattle.rym1.specs.Open.{both};
 ghost use Rattle.rym1.specs.Journal.{push_cause};
 ghost use Rattle.rym1.specs.Edits.{buffers_cause};
 ghost use Rattle.rym1.specs.Edits as edits;
-ghost use Rattle.working.specs.declared.find.Spot.TheVariants.{Held, Vacant};
+ghost use Rattle.journal.specs.Entry.{said};
 ghost use Rattle.working.specs.Spotted.{Spotted};
 ghost use Rattle.edits.specs.Calls.{Sound, Last, entry_wrong, put_rest, remove_rest, undo_rest};
 
-use journal::{entries, journal_cause, pop, push, push_cause};
+use journal::{Entry, Journal, journal_cause, pop, push};
 use lookup::cells;
-use points::judge::{
-    is_refused, mass_cause, parse_mascon_bytes, place_cause, point_cause, work_cause,
-};
+use points::file::WorkingFile;
+use points::judge::{is_finite, parse_mascon_bytes, place_cause, point_cause, work_cause};
 use points::records::{cell_number, cell_point, count, grid, out_point};
-use rym1::{Answer, Cause, Point};
-use working::find::{Spot, find_cell};
+use rym1::{Cause, Point};
+use working::find::find_cell;
 use working::moves::{insert_point, remove_point};
 
 // 1 to 7, 10, 11.
-fn buffers_cause(file: &[u8], journal: &[u32]) -> Cause
-    ensures { number result ≡ buffers_cause file.now journal.now }
+#[tactic(auto, using(crate::proofs::Judging::judging), unfolding(rym1::specs::Causes::judged))]
+fn buffers_cause<'a>(
+    file: &'a [u8],
+    journal: &'a [u32],
+) -> Result<(WorkingFile<'a>, Journal<'a>), Cause>
+    ensures cause { judged result ≡ buffers_cause file.now journal.now }
+    ensures same { IfOk result (λ b. (b.0.file.bytes.now ≡ file.now) × (b.1.words.now ≡ journal.now)) }
 {
-    let cause = parse_mascon_bytes(file);
-    if is_refused(cause) {
-        return cause;
-    }
-    let work = work_cause(file);
-    if is_refused(work) {
-        return work;
-    }
-    journal_cause(journal)
-}
-
-// The length of a file of n records, as an answer.
-fn length_of(n: u32) -> Answer
-    ensures { told result ≡ 64 + 16 * n }
-{
-    Answer::Length(64 + 16 * (n as u64))
+    let accepted = parse_mascon_bytes(file)?;
+    let working = work_cause(accepted)?;
+    let past = journal_cause(journal)?;
+    Ok((working, past))
 }
 
 // ---- put
 
-// Over the record at index i: kind 2.
-fn put_over(file: &mut [u8], journal: &mut [u32], c: u32, i: u32, p: Point) -> Answer
-    requires sound { Sound file.old journal.old × (push_cause journal.old ≡ 0) × (c < cube (grid file.old)) }
-    requires spotted { Spotted file.old c (Held i) × (p ≡ cell_point (grid file.old) c (masses_of p)) }
+// Over the record at index i.
+#[tactic(auto, using(crate::proofs::Rooms::sizes), unfolding(rym1::specs::File::size))]
+fn put_over(file: &mut [u8], journal: &mut [u32], c: u32, i: u32, p: Point) -> Result<u64, Cause>
+    requires sound { Sound file.old journal.old }
+    requires free { push_cause journal.old ≡ 0 }
+    requires inside { c < cube (grid file.old) }
+    requires spotted { Spotted file.old c (Ok i) }
+    requires own { p ≡ cell_point (grid file.old) c (masses_of p) }
     ensures { outcome (told result) (both file.new journal.new) ≡ put_rest file.old journal.old c (masses_of p) }
 {
     let n = count(file);
-    let at = 64 + 16 * (i as usize);
+    let at = 64 + 16 * i as usize;
     let cauchy = binary::u32_at(file, at + 8);
     let elliptic = binary::u32_at(file, at + 12);
     out_point(file, at, p);
-    push(journal, 0x8000_0000 + c, cauchy, elliptic);
-    length_of(n)
+    push(journal, Entry::new(Entry::REPLACED, c, cauchy, elliptic));
+    Ok(64 + 16 * n as u64)
 }
 
-// Into an empty cell, i records before it: kind 1.
-fn put_new(file: &mut [u8], journal: &mut [u32], c: u32, i: u32, p: Point) -> Answer
-    requires sound { Sound file.old journal.old × (push_cause journal.old ≡ 0) × (c < cube (grid file.old)) }
-    requires spotted { Spotted file.old c (Vacant i) × (p ≡ cell_point (grid file.old) c (masses_of p)) }
+// Into an empty cell, i records before it.
+#[tactic(auto, using(crate::proofs::Rooms::sizes, crate::proofs::Putting::put_new_full, crate::proofs::Putting::put_new_done), unfolding(rym1::specs::File::size, rym1::specs::Causes::told))]
+fn put_new(file: &mut [u8], journal: &mut [u32], c: u32, i: u32, p: Point) -> Result<u64, Cause>
+    requires sound { Sound file.old journal.old }
+    requires free { push_cause journal.old ≡ 0 }
+    requires inside { c < cube (grid file.old) }
+    requires spotted { Spotted file.old c (Err i) }
+    requires own { p ≡ cell_point (grid file.old) c (masses_of p) }
     ensures { outcome (told result) (both file.new journal.new) ≡ put_rest file.old journal.old c (masses_of p) }
 {
     let n = count(file);
-    if file.len() < 80 + 16 * (n as usize) {
-        return Answer::Refused(Cause::BufferFull);
+    if file.len() < 80 + 16 * n as usize {
+        return Err(Cause::BufferFull);
     }
     insert_point(file, i, p);
-    push(journal, 0x4000_0000 + c, 0, 0);
-    length_of(n + 1)
-}
-
-fn put_cell(file: &mut [u8], journal: &mut [u32], c: u32, p: Point) -> Answer
-    requires sound { Sound file.old journal.old × (push_cause journal.old ≡ 0) × (c < cube (grid file.old)) }
-    requires point { p ≡ cell_point (grid file.old) c (masses_of p) }
-    ensures { outcome (told result) (both file.new journal.new) ≡ put_rest file.old journal.old c (masses_of p) }
-{
-    let spot = find_cell(file, c);
-    match spot {
-        Spot::Held(i) => put_over(file, journal, c, i, p),
-        Spot::Vacant(i) => put_new(file, journal, c, i, p),
-    }
+    push(journal, Entry::new(Entry::ADDED, c, 0, 0));
+    Ok(64 + 16 * (n + 1) as u64)
 }
 
 // Put: the cell's masses become these, whether it held a record or not.
+#[tactic(auto, using(crate::proofs::Judging::sound, crate::proofs::Putting::ways), unfolding(rym1::specs::Causes::judged, rym1::specs::Causes::told))]
 pub fn put(
     file: &mut [u8],
     journal: &mut [u32],
@@ -100,7 +90,7 @@ pub fn put(
     z: u32,
     cauchy: f32,
     elliptic: f32,
-) -> Answer
+) -> Result<u64, Cause>
     ensures { outcome (told result) (both file.new journal.new)
         ≡ edits.put file.old journal.old x y z (to_bits binary32 cauchy) (to_bits binary32 elliptic) }
 {
@@ -112,177 +102,133 @@ pub fn put(
         cauchy: float::pattern::f32_to_bits(cauchy),
         elliptic: float::pattern::f32_to_bits(elliptic),
     };
-    let cause = buffers_cause(file, journal);
-    if is_refused(cause) {
-        return Answer::Refused(cause);
+    let (working, past) = buffers_cause(file, journal)?;
+    let g = working.file.grid();
+    point_cause(g, p)?;
+    past.push_cause()?;
+    let c = cell_number(g, x, y, z);
+    match find_cell(working, c) {
+        Ok(i) => put_over(file, journal, c, i, p),
+        Err(i) => put_new(file, journal, c, i, p),
     }
-    let g = grid(file);
-    let own = point_cause(g, p);
-    if is_refused(own) {
-        return Answer::Refused(own);
-    }
-    let full = push_cause(journal);
-    if is_refused(full) {
-        return Answer::Refused(full);
-    }
-    put_cell(file, journal, cell_number(g, x, y, z), p)
 }
 
 // ---- remove
 
-// The record at index i: kind 3.
-fn remove_held(file: &mut [u8], journal: &mut [u32], c: u32, i: u32) -> Answer
-    requires { Sound file.old journal.old × (c < cube (grid file.old)) × Spotted file.old c (Held i) }
+// The record at index i.
+#[tactic(auto, using(crate::proofs::Rooms::sizes, crate::proofs::Removing::way_removed), unfolding(rym1::specs::File::size, rym1::specs::Causes::told))]
+fn remove_held(file: &mut [u8], journal: &mut [u32], c: u32, i: u32) -> Result<u64, Cause>
+    requires sound { Sound file.old journal.old }
+    requires free { push_cause journal.old ≡ 0 }
+    requires inside { c < cube (grid file.old) }
+    requires spotted { Spotted file.old c (Ok i) }
     ensures { outcome (told result) (both file.new journal.new) ≡ remove_rest file.old journal.old c }
 {
-    let full = push_cause(journal);
-    if is_refused(full) {
-        return Answer::Refused(full);
-    }
     let n = count(file);
-    let at = 64 + 16 * (i as usize);
+    let at = 64 + 16 * i as usize;
     let cauchy = binary::u32_at(file, at + 8);
     let elliptic = binary::u32_at(file, at + 12);
     remove_point(file, i);
-    push(journal, 0xc000_0000 + c, cauchy, elliptic);
-    length_of(n - 1)
-}
-
-fn remove_cell(file: &mut [u8], journal: &mut [u32], c: u32) -> Answer
-    requires { Sound file.old journal.old × (c < cube (grid file.old)) }
-    ensures { outcome (told result) (both file.new journal.new) ≡ remove_rest file.old journal.old c }
-{
-    let spot = find_cell(file, c);
-    match spot {
-        Spot::Held(i) => remove_held(file, journal, c, i),
-        Spot::Vacant(_) => Answer::Refused(Cause::CellEmpty),
-    }
+    push(journal, Entry::new(Entry::REMOVED, c, cauchy, elliptic));
+    Ok(64 + 16 * (n - 1) as u64)
 }
 
 // Remove: the cell becomes empty.
-pub fn remove(file: &mut [u8], journal: &mut [u32], x: u32, y: u32, z: u32) -> Answer
+#[tactic(auto, using(crate::proofs::Judging::sound, crate::proofs::Removing::ways), unfolding(rym1::specs::Causes::judged, rym1::specs::Causes::told))]
+pub fn remove(file: &mut [u8], journal: &mut [u32], x: u32, y: u32, z: u32) -> Result<u64, Cause>
     ensures { outcome (told result) (both file.new journal.new) ≡ edits.remove file.old journal.old x y z }
 {
-    let cause = buffers_cause(file, journal);
-    if is_refused(cause) {
-        return Answer::Refused(cause);
+    let (working, past) = buffers_cause(file, journal)?;
+    let g = working.file.grid();
+    place_cause(g, x, y, z)?;
+    let c = cell_number(g, x, y, z);
+    match find_cell(working, c) {
+        Ok(i) => {
+            past.push_cause()?;
+            remove_held(file, journal, c, i)
+        }
+        Err(_) => Err(Cause::CellEmpty),
     }
-    let g = grid(file);
-    let place = place_cause(g, x, y, z);
-    if is_refused(place) {
-        return Answer::Refused(place);
-    }
-    remove_cell(file, journal, cell_number(g, x, y, z))
 }
 
 // ---- undo
 
 // 16, but for the cell's state.
-fn is_entry_wrong(g: u32, head: u32, cauchy: u32, elliptic: u32) -> bool
+#[tactic(auto, unfolding(crate::specs::Calls::entry_wrong, rym1::specs::Causes::judged, rym1::specs::Causes::number, rym1::specs::Causes::when))]
+fn entry_cause(g: u32, entry: Entry) -> Result<(), Cause>
     requires { g ≤ 256 }
-    ensures { result ≡ entry_wrong g head cauchy elliptic }
+    ensures { judged result ≡ when (entry_wrong g (said entry)) 16 }
 {
-    let kind = head / 0x4000_0000;
-    if kind == 0 {
-        return true;
+    let kind = entry.kind();
+    if kind == 0 || entry.gap() != 0 || cells(g) <= entry.cell() as usize {
+        return Err(Cause::EntryWrong);
     }
-    if head / 0x100_0000 % 64 != 0 {
-        return true;
+    if kind == Entry::ADDED || is_finite(entry.cauchy) && is_finite(entry.elliptic) {
+        return Ok(());
     }
-    if cells(g) <= (head % 0x100_0000) as usize {
-        return true;
-    }
-    if kind == 1 {
-        return false;
-    }
-    is_refused(mass_cause(cauchy, elliptic))
+    Err(Cause::EntryWrong)
 }
 
 // The cell holds the record at index i: a put is undone.
-fn undo_held(
-    file: &mut [u8],
-    journal: &mut [u32],
-    head: u32,
-    cauchy: u32,
-    elliptic: u32,
-    i: u32,
-) -> Answer
-    requires sound { Sound file.old journal.old × Last journal.old head cauchy elliptic × Spotted file.old (head % 16777216) (Held i) }
-    requires right { entry_wrong (grid file.old) head cauchy elliptic ≡ false }
+#[tactic(auto, using(crate::proofs::Rooms::sizes, crate::proofs::Undoing::way_held, crate::proofs::Undoing::way_emptied), unfolding(rym1::specs::File::size, rym1::specs::Causes::told))]
+fn undo_held(file: &mut [u8], journal: &mut [u32], entry: Entry, i: u32) -> Result<u64, Cause>
+    requires sound { Sound file.old journal.old }
+    requires last { Last journal.old (said entry) }
+    requires spotted { Spotted file.old (said entry).cell (Ok i) }
+    requires right { entry_wrong (grid file.old) (said entry) ≡ false }
     ensures { outcome (told result) (both file.new journal.new) ≡ undo_rest file.old journal.old }
 {
     let n = count(file);
-    let kind = head / 0x4000_0000;
-    if kind == 3 {
-        return Answer::Refused(Cause::EntryWrong);
+    let kind = entry.kind();
+    if kind == Entry::REMOVED {
+        return Err(Cause::EntryWrong);
     }
-    if kind == 1 {
+    if kind == Entry::ADDED {
         remove_point(file, i);
         pop(journal);
-        return length_of(n - 1);
+        return Ok(64 + 16 * (n - 1) as u64);
     }
-    let p = cell_point(grid(file), head % 0x100_0000, cauchy, elliptic);
-    out_point(file, 64 + 16 * (i as usize), p);
+    let p = cell_point(grid(file), entry.cell(), entry.cauchy, entry.elliptic);
+    out_point(file, 64 + 16 * i as usize, p);
     pop(journal);
-    length_of(n)
+    Ok(64 + 16 * n as u64)
 }
 
 // The cell is empty, i records before it: a removal is undone.
-fn undo_vacant(
-    file: &mut [u8],
-    journal: &mut [u32],
-    head: u32,
-    cauchy: u32,
-    elliptic: u32,
-    i: u32,
-) -> Answer
-    requires sound { Sound file.old journal.old × Last journal.old head cauchy elliptic × Spotted file.old (head % 16777216) (Vacant i) }
-    requires right { entry_wrong (grid file.old) head cauchy elliptic ≡ false }
+#[tactic(auto, using(crate::proofs::Rooms::sizes, crate::proofs::Undoing::way_vacant, crate::proofs::Undoing::way_full), unfolding(rym1::specs::File::size, rym1::specs::Causes::told))]
+fn undo_vacant(file: &mut [u8], journal: &mut [u32], entry: Entry, i: u32) -> Result<u64, Cause>
+    requires sound { Sound file.old journal.old }
+    requires last { Last journal.old (said entry) }
+    requires spotted { Spotted file.old (said entry).cell (Err i) }
+    requires right { entry_wrong (grid file.old) (said entry) ≡ false }
     ensures { outcome (told result) (both file.new journal.new) ≡ undo_rest file.old journal.old }
 {
     let n = count(file);
-    if head / 0x4000_0000 != 3 {
-        return Answer::Refused(Cause::EntryWrong);
+    if entry.kind() != Entry::REMOVED {
+        return Err(Cause::EntryWrong);
     }
-    if file.len() < 80 + 16 * (n as usize) {
-        return Answer::Refused(Cause::BufferFull);
+    if file.len() < 80 + 16 * n as usize {
+        return Err(Cause::BufferFull);
     }
-    let p = cell_point(grid(file), head % 0x100_0000, cauchy, elliptic);
+    let p = cell_point(grid(file), entry.cell(), entry.cauchy, entry.elliptic);
     insert_point(file, i, p);
     pop(journal);
-    length_of(n + 1)
-}
-
-// The last entry, by its three words.
-fn undo_entry(file: &mut [u8], journal: &mut [u32], head: u32, cauchy: u32, elliptic: u32) -> Answer
-    requires { Sound file.old journal.old × Last journal.old head cauchy elliptic }
-    ensures { outcome (told result) (both file.new journal.new) ≡ undo_rest file.old journal.old }
-{
-    if is_entry_wrong(grid(file), head, cauchy, elliptic) {
-        return Answer::Refused(Cause::EntryWrong);
-    }
-    let spot = find_cell(file, head % 0x100_0000);
-    match spot {
-        Spot::Held(i) => undo_held(file, journal, head, cauchy, elliptic, i),
-        Spot::Vacant(i) => undo_vacant(file, journal, head, cauchy, elliptic, i),
-    }
+    Ok(64 + 16 * (n + 1) as u64)
 }
 
 // Undo: the last put or remove that is not undone.
-pub fn undo(file: &mut [u8], journal: &mut [u32]) -> Answer
+#[tactic(auto, using(crate::proofs::Judging::sound, crate::proofs::Undoing::ways), unfolding(rym1::specs::Causes::judged, rym1::specs::Causes::told))]
+pub fn undo(file: &mut [u8], journal: &mut [u32]) -> Result<u64, Cause>
     ensures { outcome (told result) (both file.new journal.new) ≡ edits.undo file.old journal.old }
 {
-    let cause = buffers_cause(file, journal);
-    if is_refused(cause) {
-        return Answer::Refused(cause);
+    let (working, past) = buffers_cause(file, journal)?;
+    if past.entries() == 0 {
+        return Err(Cause::NoEntry);
     }
-    let e = entries(journal);
-    if e == 0 {
-        return Answer::Refused(Cause::NoEntry);
+    let entry = past.last();
+    entry_cause(working.file.grid(), entry)?;
+    match find_cell(working, entry.cell()) {
+        Ok(i) => undo_held(file, journal, entry, i),
+        Err(i) => undo_vacant(file, journal, entry, i),
     }
-    let at = 1 + 3 * ((e - 1) as usize);
-    let head = journal[at];
-    let cauchy = journal[at + 1];
-    let elliptic = journal[at + 2];
-    undo_entry(file, journal, head, cauchy, elliptic)
 }

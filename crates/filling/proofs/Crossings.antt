@@ -1,4 +1,6 @@
 -- The crossings of a ray are above 0, so sorted they ascend. Assumes nothing.
+use Rattle.filling.specs.declared.Crossing.{Crossing}
+use Rattle.filling.specs.declared.Crossing.TheVariants.{At, Miss}
 use Prim.Native.Nat.{◌*◌, ◌<◌}
 use mathlib.Core.Path.{◌≡◌, refl, ap, ◌∙◌}
 use mathlib.Core.Logic.{∥∥₁_elim}
@@ -13,8 +15,6 @@ use borrow.Author.Tests.{ltb-true, lt-ltb, not-false}
 use Rattle.float.specs.Number.{zero64, one64, abs}
 use Rattle.filling.specs.declared.Vec3.{Vec3}
 use Rattle.filling.specs.declared.Triangle.{Triangle}
-use Rattle.filling.specs.declared.Crossing.{Crossing}
-use Rattle.filling.specs.declared.Crossing.TheVariants.{At, Miss}
 use Rattle.filling.specs.declared.Bounds.{Bounds}
 use Rattle.filling.specs.declared.Indices.{Indices}
 use Rattle.filling.specs.Vector.{plus}

@@ -1,4 +1,5 @@
 -- The lists by row yield what the scan does: the same candidates in the same order, each once, the same crossings, and so the same answers. Assumes nothing.
+use Rattle.filling.specs.declared.Crossing.TheVariants.{At, Miss}
 use Prim.Native.Nat.{ℕ, zero, suc, ◌+◌, ◌*◌, ◌/◌, ◌%◌, ◌≤◌, ◌<◌}
 use native.Mathlib.Omega.{arith}
 use mathlib.Core.Path.{◌≡◌, refl, sym, ◌∙◌, ap}
@@ -12,7 +13,6 @@ use Rattle.filling.specs.declared.Vec3.{Vec3}
 use Rattle.filling.specs.declared.Triangle.{Triangle}
 use Rattle.filling.specs.declared.Bounds.{Bounds}
 use Rattle.filling.specs.declared.Indices.{Indices}
-use Rattle.filling.specs.declared.Crossing.TheVariants.{Miss}
 use Rattle.filling.specs.Lists.{triangle, triangles_at, mesh, good_triangle, good_triangles}
 use Rattle.filling.specs.Ray.{ray}
 use Rattle.filling.specs.Inside.{scaled, indices, reached, low_of, high_of, candidate, listed, crossing, crossings, odd_rest, is_inside}

@@ -1,12 +1,12 @@
 -- Where the ray from a point along +X crosses a triangle: the test of Möller and Trumbore, its steps grouped as in `ray_triangle_t`. Definitions only.
+use Rattle.filling.specs.declared.Crossing.{Crossing}
+use Rattle.filling.specs.declared.Crossing.TheVariants.{At, Miss}
 use Rattle.std.specs.Prelude.{Bool, cond, not, ◌&&◌, ◌||◌, Float}
 use Rattle.std.specs.Float.{binary64}
 use Rattle.std.specs.Float.Ieee.{of_bits, lt, le}
 use Rattle.float.specs.Number.{zero64, one64, abs}
 use Rattle.filling.specs.declared.Vec3.{Vec3}
 use Rattle.filling.specs.declared.Triangle.{Triangle}
-use Rattle.filling.specs.declared.Crossing.{Crossing}
-use Rattle.filling.specs.declared.Crossing.TheVariants.{At, Miss}
 use Rattle.filling.specs.Vector.{plus, times, over, vec, sub, cross, dot}
 
 -- 1e-12

@@ -1,8 +1,6 @@
 // The types that the definitions of specs/ and the code share (model.rs, inside.rs, density.rs). The crate has no function.
 #![tactic(auto)]
 
-use rym1::Cause;
-
 #[derive(Clone, Copy)]
 pub struct Vec3 {
     pub x: f64,
@@ -40,19 +38,11 @@ pub struct Indices {
     pub k: u32,
 }
 
-// Where a ray along +X meets a triangle: at a distance, or not at all.
+// Where a ray along +X meets a triangle: at a distance, or not at all. The scope names this form of the answer, in place of the original's mark.
 #[derive(Clone, Copy)]
 pub enum Crossing {
     At(f64),
     Miss,
-}
-
-// What inside answers.
-#[derive(Clone, Copy)]
-pub enum Side {
-    Refused(Cause),
-    Outside,
-    Inside,
 }
 
 // Where the cells of a filling lie: the padded box, a cell's widths, its volume.

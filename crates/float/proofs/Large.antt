@@ -1,4 +1,5 @@
 -- The answer of narrowing: which numbers are too large, for every exponent and fraction length, and what a finite answer is. Assumes nothing.
+use Rattle.std.specs.Prelude.{Option, Some, None}
 use mathlib.Core.Path.{◌≡◌, refl, sym, ap, ◌∙◌, subst}
 use mathlib.Core.Bool.{Bool, true, false, not, cond, true≢false}
 use Prim.Native.Nat.{ℕ, ◌+◌, ◌-◌, ◌*◌, ◌/◌, ◌%◌, ◌^◌, ◌≤◌, ◌<◌}
@@ -12,8 +13,6 @@ use borrow.Author.Tests.{lt-ltb, le-leb, lt-leb, eq-eqb, ne_eqb, leb-true, leb-f
 use lib.Ieee.{Float, binary32, binary64, fits, of_bits, to_bits, ne}
 use lib.Ieee.Scale.{finite}
 use lib.Ieee.Bits.{to_bits-lt}
-use Rattle.float.specs.declared.Narrowed.{Narrowed}
-use Rattle.float.specs.declared.Narrowed.TheVariants.{Finite, TooLarge}
 use Rattle.float.specs.Layout.{full, lowest, infinity, quiet, sign_field, exp_field, frac_field, magnitude}
 use Rattle.float.specs.Rule.{threshold}
 use Rattle.float.specs.Narrow.{narrow64, narrowed, too_large, narrowing, is_large, float_word, Told}
@@ -23,29 +22,29 @@ use Rattle.float.proofs.Kit.{is_nan_law, back, narrow_value, narrowed_fits}
 
 -- ---- the code's three ways
 
-pub nan_large : (x : Float) → ne x x ≡ true → TooLarge ≡ narrowing x
-nan_large x h = subst (λ (v : Float). TooLarge ≡ narrowing v) (sym (is_nan_law x h)) (unfold narrowing narrowed in refl)
+pub nan_large : (x : Float) → ne x x ≡ true → None ≡ narrowing x
+nan_large x h = subst (λ (v : Float). None ≡ narrowing v) (sym (is_nan_law x h)) (unfold narrowing narrowed in refl)
 
 module _ (x : Float) (held : T (fits binary64 x)) (r : ℕ) (e : r ≡ narrow64 (to_bits binary64 x)) where
-  pub pattern_large : (t : Bool) → t ≡ finite (of_bits binary32 r) → t ≡ false → TooLarge ≡ narrowing x
+  pub pattern_large : (t : Bool) → t ≡ finite (of_bits binary32 r) → t ≡ false → None ≡ narrowing x
   unfolding narrowing
   pattern_large t et h = rw (sym (ap finite (back x held r e)) ∙ sym et ∙ h)
 
-  pub pattern_finite : (t : Bool) → t ≡ finite (of_bits binary32 r) → t ≡ true → Finite (of_bits binary32 r) ≡ narrowing x
+  pub pattern_finite : (t : Bool) → t ≡ finite (of_bits binary32 r) → t ≡ true → Some (of_bits binary32 r) ≡ narrowing x
   unfolding narrowing
-  pattern_finite t et h = rw (sym (ap finite (back x held r e)) ∙ sym et ∙ h) (ap (λ (v : Float). Finite v) (back x held r e))
+  pattern_finite t et h = rw (sym (ap finite (back x held r e)) ∙ sym et ∙ h) (ap (λ (v : Float). Some v) (back x held r e))
 
 -- ---- a finite answer is the narrowed value, and its pattern what is written
 
-pub finite_is : (x v : Float) → narrowing x ≡ Finite v → (v ≡ narrowed x) × (finite (narrowed x) ≡ true)
+pub finite_is : (x v : Float) → narrowing x ≡ Some v → (v ≡ narrowed x) × (finite (narrowed x) ≡ true)
 unfolding narrowing
 finite_is x v e = go (finite (narrowed x)) refl e
   where
-    go : (t : Bool) → finite (narrowed x) ≡ t → cond t (Finite (narrowed x)) TooLarge ≡ Finite v → (v ≡ narrowed x) × (finite (narrowed x) ≡ true)
+    go : (t : Bool) → finite (narrowed x) ≡ t → cond t (Some (narrowed x)) None ≡ Some v → (v ≡ narrowed x) × (finite (narrowed x) ≡ true)
     go true q d = (let s : narrowed x ≡ v = cc in sym s, q)
     go false q d = absurd (let z : ◌≡◌ {A = ℕ} 0 1 = cc in omega arith)
 
-pub finite_written : (x v : Float) → T (fits binary64 x) → narrowing x ≡ Finite v → to_bits binary32 v ≡ narrow64 (to_bits binary64 x)
+pub finite_written : (x v : Float) → T (fits binary64 x) → narrowing x ≡ Some v → to_bits binary32 v ≡ narrow64 (to_bits binary64 x)
 finite_written x v held e = ap (to_bits binary32) (finite_is x v e).0 ∙ sym (narrow_value x held)
 
 -- ---- all that an answer says
@@ -59,18 +58,18 @@ told_finite : (x : Float) → finite (narrowed x) ≡ not (is_large (narrowing x
 unfolding narrowing is_large
 told_finite x = go (finite (narrowed x))
   where
-    go : (t : Bool) → t ≡ not (is_large (cond t (Finite (narrowed x)) TooLarge))
+    go : (t : Bool) → t ≡ not (is_large (cond t (Some (narrowed x)) None))
     go true = refl
     go false = refl
 
-pub told : (x : Float) → T (fits binary64 x) → (r : Narrowed) → r ≡ narrowing x → Told x r
+pub told : (x : Float) → T (fits binary64 x) → (r : Option Float) → r ≡ narrowing x → Told x r
 unfolding float_word
 told x held r e =
     record {
       is = e;
       written = λ v q. finite_written x v held (sym e ∙ q);
       value = λ v q. back x held _ refl ∙ sym (finite_is x v (sym e ∙ q)).0;
-      tells = rw (lt-ltb (float_word x) 4294967296 (float_small x held)) (ap finite (back x held _ refl) ∙ told_finite x ∙ ap (λ (a : Narrowed). not (is_large a)) (sym e));
+      tells = rw (lt-ltb (float_word x) 4294967296 (float_small x held)) (ap finite (back x held _ refl) ∙ told_finite x ∙ ap (λ (a : Option Float). not (is_large a)) (sym e));
     }
 
 -- ---- for all lengths: from the threshold on, and an infinity or a NaN, is too large, and nothing else
@@ -115,7 +114,7 @@ large_is x held =
     let is : not (eqb (p % 2147483648 / 8388608) 255) ≡ finite (narrowed x) = bits_finite binary32 p ∙ ap finite (back x held p refl) in
     go (finite (narrowed x)) (eqb (p % 2147483648 / 8388608) 255) is ∙ field_large (p % 2147483648) (mod-lt p (lit≤ tt))
   where
-    go : (t e : Bool) → not e ≡ t → is_large (cond t (Finite (narrowed x)) TooLarge) ≡ e
+    go : (t e : Bool) → not e ≡ t → is_large (cond t (Some (narrowed x)) None) ≡ e
     go true true q = absurd (true≢false (sym q))
     go true false q = refl
     go false true q = refl

@@ -1,11 +1,9 @@
 -- Narrowing of a bit pattern, for any lengths: from ew bits of exponent and fw of fraction to en and fn. Definitions only.
-use Rattle.std.specs.Prelude.{ℕ, ◌+◌, ◌-◌, ◌*◌, ◌%◌, ◌^◌, min, ◌≡◌, Bool, true, false, not, cond, ◌&&◌, ◌||◌, List, [], ◌∷◌, eqb, leb, ltb, Float}
+use Rattle.std.specs.Prelude.{ℕ, ◌+◌, ◌-◌, ◌*◌, ◌%◌, ◌^◌, min, ◌≡◌, Bool, true, false, not, cond, ◌&&◌, ◌||◌, List, [], ◌∷◌, Option, Some, None, eqb, leb, ltb, Float}
 use Rattle.std.specs.Float.{nan, inf, fin, binary32, binary64}
 use Rattle.std.specs.Float.Ieee.{up, down, round, of_bits, to_bits}
 use Rattle.std.specs.Float.Ieee.Scale.{finite}
 use Rattle.std.specs.Float.Ieee.Nearest.{closest}
-use Rattle.float.specs.declared.Narrowed.{Narrowed}
-use Rattle.float.specs.declared.Narrowed.TheVariants.{Finite, TooLarge}
 use Rattle.float.specs.Layout.{bias, full, infinity, quiet, sign_field, exp_field, frac_field, digits_of}
 
 -- The narrow magnitude bits for a finite wide pattern's exponent field x and fraction t. `-` stops at 0.
@@ -43,17 +41,17 @@ narrowed (fin s m e) = round binary32 s (m * up e) (down e)
 unfoldable pub too_large : ℕ → ℕ → ℕ → ℕ → ℕ → Bool
 too_large ew fw en fn b = leb (infinity en fn) (narrow ew fw en fn b % 2 ^ (en + fn))
 
-unfoldable pub narrowing : Float → Narrowed
-narrowing x = cond (finite (narrowed x)) (Finite (narrowed x)) TooLarge
+unfoldable pub narrowing : Float → Option Float
+narrowing x = cond (finite (narrowed x)) (Some (narrowed x)) None
 
-unfoldable pub is_large : Narrowed → Bool
-is_large (Finite v) = false
-is_large TooLarge = true
+unfoldable pub is_large : Option Float → Bool
+is_large (Some v) = false
+is_large None = true
 
 -- as one number: the pattern of a finite float, 2^32 for too large
-unfoldable pub narrow_number : Narrowed → ℕ
-narrow_number (Finite v) = to_bits binary32 v
-narrow_number TooLarge = 4294967296
+unfoldable pub narrow_number : Option Float → ℕ
+narrow_number (Some v) = to_bits binary32 v
+narrow_number None = 4294967296
 
 -- ---- as they are written
 
@@ -72,8 +70,8 @@ any_large (x ∷ xs) = is_large (narrowing x) || any_large xs
 
 -- what the code's answer r says of x: it is narrowing's; a finite one is the float of the word that is written, and that word is the pattern of a finite
 -- float exactly then
-pub record Told (x : Float) (r : Narrowed) : Type 0 where
+pub record Told (x : Float) (r : Option Float) : Type 0 where
   pub is : r ≡ narrowing x
-  pub written : (v : Float) → r ≡ Finite v → to_bits binary32 v ≡ float_word x
-  pub value : (v : Float) → r ≡ Finite v → of_bits binary32 (float_word x) ≡ v
+  pub written : (v : Float) → r ≡ Some v → to_bits binary32 v ≡ float_word x
+  pub value : (v : Float) → r ≡ Some v → of_bits binary32 (float_word x) ≡ v
   pub tells : (ltb (float_word x) 4294967296 && finite (of_bits binary32 (float_word x))) ≡ not (is_large r)

@@ -9,7 +9,7 @@ ghost use Rattle.std.specs.Prelude.{◌≡◌, ◌^◌, ◌<◌};
 ghost use Rattle.std.specs.Float.Ieee.Nearest.{closest};
 ghost use Rattle.float.specs.Narrow.{narrow_finite, narrow64, Told};
 
-use pattern::is_finite32;
+use pattern::{Binary32, is_finite};
 
 // m / 2^d to the nearest whole number, and a tie to the even one.
 fn nearest_shift(m: u64, d: u64) -> u64
@@ -70,23 +70,16 @@ fn narrow_bits(b: u64) -> u32
     (sign + narrow_finite(x, t)) as u32
 }
 
-// What narrowing answers: a finite binary32, or that the number is too large for one. A NaN is too large.
-#[derive(Clone, Copy)]
-pub enum Narrowed {
-    Finite(f32),
-    TooLarge,
-}
-
-// The binary32 nearest to x, if it is finite; its pattern is then the word that is written.
-pub fn narrow(x: f64) -> Narrowed
+// The binary32 nearest to x; none where x is too large for one, or a NaN. Its pattern is then the word that is written.
+pub fn narrow(x: f64) -> Option<f32>
     ensures { Told x result }
 {
     if x != x {
-        return Narrowed::TooLarge;
+        return None;
     }
     let pattern = narrow_bits(f64::to_bits(x));
-    if !is_finite32(pattern) {
-        return Narrowed::TooLarge;
+    if !is_finite::<Binary32>(pattern as u64) {
+        return None;
     }
-    Narrowed::Finite(f32::from_bits(pattern))
+    Some(f32::from_bits(pattern))
 }

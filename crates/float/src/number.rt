@@ -8,6 +8,7 @@ pub fn abs(x: f64) -> f64
     if x < 0.0 { -x } else { x }
 }
 
+// One comparison each, under the original's names; with the comparison as a parameter they would be no shorter.
 pub fn scalar_min(a: f64, b: f64) -> f64
     ensures { result ≡ scalar_min a b }
 {

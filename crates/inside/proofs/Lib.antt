@@ -1,4 +1,2 @@
-pub mod Answers
 pub mod Listing
 pub mod Sorting
-pub mod Thinning

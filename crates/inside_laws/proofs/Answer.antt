@@ -1,4 +1,6 @@
 -- Sorting forgets the order of what is found: two permutations of crossings sort to one list. Assumes nothing.
+use Rattle.filling.specs.declared.Crossing.{Crossing}
+use Rattle.filling.specs.declared.Crossing.TheVariants.{At, Miss}
 use Prim.Native.Nat.{ℕ, ◌*◌, ◌/◌, ◌<◌}
 use native.Mathlib.Omega.{arith}
 use mathlib.Core.Path.{◌≡◌, refl, sym, ap, ap₂, ◌∙◌}
@@ -20,8 +22,6 @@ use Rattle.filling.specs.declared.Vec3.{Vec3}
 use Rattle.filling.specs.declared.Triangle.{Triangle}
 use Rattle.filling.specs.declared.Bounds.{Bounds}
 use Rattle.filling.specs.declared.Indices.{Indices}
-use Rattle.filling.specs.declared.Crossing.{Crossing}
-use Rattle.filling.specs.declared.Crossing.TheVariants.{At, Miss}
 use Rattle.filling.specs.Lists.{mesh}
 use Rattle.filling.specs.Ray.{misses, ray}
 use Rattle.filling.specs.Inside.{candidate, crossing, listed, crossings, placed, sorted}

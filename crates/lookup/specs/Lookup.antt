@@ -1,5 +1,5 @@
 -- The lookup of a point file as lent words. Definitions only.
-use Rattle.std.specs.Prelude.{ℕ, zero, suc, ◌+◌, ◌≤◌, ◌<◌, ◌≡◌, List, length, get_or}
+use Rattle.std.specs.Prelude.{ℕ, suc, ◌≤◌, ◌<◌, ◌≡◌, List, length, get_or}
 use Rattle.rym1.specs.File.{grid, cube}
 use Rattle.rym1.specs.Cells.{Slot, vacant, held, look}
 
@@ -12,12 +12,3 @@ slot_word (held i m) = suc i
 pub record Looked (words f : List ℕ) : Type 0 where
   pub room : cube (grid f) ≤ length words
   pub each : (c : ℕ) → c < cube (grid f) → get_or words c 0 ≡ slot_word (look f c)
-
-unfoldable pub one : ℕ → ℕ
-one zero = 0
-one (suc w) = 1
-
--- how many of k words, from a place on, are not 0
-unfoldable pub marked : List ℕ → ℕ → ℕ → ℕ
-marked words at zero = 0
-marked words at (suc k) = one (get_or words at 0) + marked words (suc at) k

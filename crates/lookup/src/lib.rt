@@ -1,43 +1,29 @@
 // The lookup of a point file in lent words, and the causes up to 8 that it asks for: a cell's word is one more than the index of the last record that names the cell, or 0.
 #![tactic(auto)]
 
-ghost use Rattle.std.specs.Prelude.{◌≡◌, ℕ, ◌+◌, ◌*◌, ◌≤◌, ◌<◌, length, get_or, replicate, ltb};
-ghost use Rattle.rym1.specs.Bytes.{splice};
-ghost use Rattle.rym1.specs.Causes.{number, when, first};
-ghost use Rattle.rym1.specs.File.{grid, count, cube, file_cause};
+ghost use Rattle.std.specs.Prelude.{◌≡◌, ℕ, ◌==◌, ◌*◌, ◌≤◌, ◌<◌, not, count_by, length, get_or, ltb, IfOk};
+ghost use Rattle.rym1.specs.Causes.{judged, when, first};
+ghost use Rattle.rym1.specs.File.{grid, cube, file_cause};
 ghost use Rattle.rym1.specs.Open.{occupied};
-ghost use Rattle.lookup.specs.Lookup.{Looked, marked};
+ghost use Rattle.lookup.specs.Lookup.{Looked};
 
-use points::judge::{is_refused, parse_mascon_bytes};
-use points::records::{cell_number, count, grid, point_at};
+use points::file::PointFile;
+use points::judge::parse_mascon_bytes;
+use points::records::cell_number;
 use rym1::Cause;
 
-// The first n words become 0.
-pub fn clear(words: &mut [u32], n: usize)
-    requires { n ≤ length words.old }
-    ensures { words.new ≡ splice words.old 0 (replicate n 0) }
-{
-    let mut i: usize = 0;
-    while i < n {
-        words[i] = 0;
-        i += 1;
-    }
-}
-
 // Each record in file order: the later one counts.
-fn enter_points(words: &mut [u32], file: &[u8], g: u32, n: u32)
-    requires accepted { (file_cause file.now ≡ 0) × (g ≡ grid file.now) × (n ≡ count file.now) }
-    requires cleared { (cube g ≤ length words.old) × ((c : ℕ) → c < cube g → get_or words.old c 0 ≡ 0) }
-    ensures { Looked words.new file.now × (length words.new ≡ length words.old) }
+fn enter_points(words: &mut [u32], file: PointFile<'_>)
+    requires cleared { (cube (grid file.bytes.now) ≤ length words.old)
+        × ((c : ℕ) → c < cube (grid file.bytes.now) → get_or words.old c 0 ≡ 0) }
+    ensures { Looked words.new file.entry.bytes.now × (length words.new ≡ length words.old) }
 {
-    let mut at: usize = 64;
-    let mut i: u32 = 0;
-    while i < n {
-        let p = point_at(file, at);
+    let g = file.grid();
+    let n = file.count();
+    for i in 0..n {
+        let p = file.point(i);
         let c = cell_number(g, p.x, p.y, p.z);
-        i += 1;
-        words[c as usize] = i;
-        at += 16;
+        words[c as usize] = i + 1;
     }
 }
 
@@ -50,53 +36,39 @@ pub fn cells(g: u32) -> usize
     side * side * side
 }
 
-// The whole lookup of a file that is not refused.
-fn fill_lookup(words: &mut [u32], file: &[u8])
-    requires accepted { file_cause file.now ≡ 0 }
-    requires room { cube (grid file.now) ≤ length words.old }
-    ensures { Looked words.new file.now × (length words.new ≡ length words.old) }
+// The whole lookup of a file.
+fn fill_lookup(words: &mut [u32], file: PointFile<'_>)
+    requires { cube (grid file.bytes.now) ≤ length words.old }
+    ensures { Looked words.new file.entry.bytes.now × (length words.new ≡ length words.old) }
 {
-    let g = grid(file);
-    clear(words, cells(g));
-    enter_points(words, file, g, count(file));
+    words[..cells(file.grid())].fill(0);
+    enter_points(words, file);
 }
 
-// How many of the first n words are not 0.
-fn count_marked(words: &[u32], n: usize) -> usize
-    requires { n ≤ length words.now }
-    ensures { (result ≡ marked words.now 0 n) × (result ≤ n) }
+// How many words are not 0.
+fn count_marked(words: &[u32]) -> usize
+    ensures { (result ≡ count_by (λ w. not (w == 0)) words.now) × (result ≤ length words.now) }
 {
-    let mut found: usize = 0;
-    let mut i: usize = 0;
-    while i < n {
-        if words[i] != 0 {
-            found += 1;
-        }
-        i += 1;
-    }
-    found
+    words.iter().filter(|w| **w != 0).count()
 }
 
 // The whole lookup; how many cells are occupied.
-pub fn fill_counted(words: &mut [u32], file: &[u8]) -> u32
-    requires accepted { file_cause file.now ≡ 0 }
-    requires room { cube (grid file.now) ≤ length words.old }
-    ensures { (result ≡ occupied file.now) × Looked words.new file.now × (length words.new ≡ length words.old) }
+pub fn fill_counted(words: &mut [u32], file: PointFile<'_>) -> u32
+    requires { cube (grid file.bytes.now) ≤ length words.old }
+    ensures { (result ≡ occupied file.entry.bytes.now) × Looked words.new file.entry.bytes.now × (length words.new ≡ length words.old) }
 {
     fill_lookup(words, file);
-    count_marked(words, cells(grid(file))) as u32
+    count_marked(&words[..cells(file.grid())]) as u32
 }
 
 // 1 to 7 of a file; 8, fewer words than it has cells.
-pub fn read_cause(file: &[u8], words: usize) -> Cause
-    ensures { number result ≡ first (file_cause file.now) (when (ltb words (cube (grid file.now))) 8) }
+pub fn read_cause(file: &[u8], words: usize) -> Result<PointFile<'_>, Cause>
+    ensures cause { judged result ≡ first (file_cause file.now) (when (ltb words (cube (grid file.now))) 8) }
+    ensures file { IfOk result (λ p. p.bytes.now ≡ file.now) }
 {
-    let cause = parse_mascon_bytes(file);
-    if is_refused(cause) {
-        return cause;
+    let accepted = parse_mascon_bytes(file)?;
+    if words < cells(accepted.grid()) {
+        return Err(Cause::ScratchShort);
     }
-    if words < cells(grid(file)) {
-        return Cause::ScratchShort;
-    }
-    Cause::Nothing
+    Ok(accepted)
 }

@@ -48,19 +48,19 @@ module _ (p q : ℕ → ℕ) (a : ℕ) (here : q a ≡ p a + 1) (else : (i : ℕ
 
 -- ---- marks, entered one after the other
 
--- the marks of the records that are still to come: those from byte `at` on, i of n being entered
-unfoldable pub coming : List ℕ → ℕ → ℕ → ℕ → ℕ → ℕ → ℕ
-coming f g at i n c = one (masses_in (look_from g i (points_at f at (n - i)) c))
+-- the marks of the records that are still to come, i of n being entered
+unfoldable pub coming : List ℕ → ℕ → ℕ → ℕ → ℕ → ℕ
+coming f g i n c = one (masses_in (look_from g i (points_at f (64 + 16 * i) (n - i)) c))
 
 -- what is entered, with what is still to come, is the file's marks; what is to come is in working form
-pub record Entering (words f : List ℕ) (g at i n : ℕ) : Type 0 where
+pub record Entering (words f : List ℕ) (g i n : ℕ) : Type 0 where
   pub space : 2 * groups (cube g) ≤ length words
-  pub each : (k : ℕ) → k < groups (cube g) → get_or words (2 * k) 0 + mark_word (coming f g at i n) (32 * k) 32 ≡ mark_word (mark f) (32 * k) 32
+  pub each : (k : ℕ) → k < groups (cube g) → get_or words (2 * k) 0 + mark_word (coming f g i n) (32 * k) 32 ≡ mark_word (mark f) (32 * k) 32
   pub low : ℕ
-  pub works : working g low (points_at f at (n - i)) ≡ true
+  pub works : working g low (points_at f (64 + 16 * i) (n - i)) ≡ true
 
 pub enter_start : (words f : List ℕ) (g n : ℕ) → work_cause f ≡ 0 → g ≡ grid f → n ≡ count f → 2 * groups (cube g) ≤ length words
-    → ((k : ℕ) → k < 2 * groups (cube g) → get_or words k 0 ≡ 0) → Entering words f g 64 0 n
+    → ((k : ℕ) → k < 2 * groups (cube g) → get_or words k 0 ≡ 0) → Entering words f g 0 n
 enter_start words f g n w eg en h all =
     record {
       space = h;
@@ -69,10 +69,10 @@ enter_start words f g n w eg en h all =
       works = rw (sub-zero n, eg, en) (unfold points in in_form);
     }
   where
-    each_same : (c : ℕ) → coming f g 64 0 n c ≡ mark f c
+    each_same : (c : ℕ) → coming f g 0 n c ≡ mark f c
     each_same c = unfold coming mark mass_map look points in rw (sub-zero n, eg, en)
 
-    same : coming f g 64 0 n ≡ mark f
+    same : coming f g 0 n ≡ mark f
     same = fun_ext (λ c. each_same c)
 
     in_form : working (grid f) 0 (points f) ≡ true
@@ -86,33 +86,34 @@ alone : (g i : ℕ) (p : Point) (ps : List Point) (c : ℕ) → look_from g (suc
 unfolding look_from later
 alone g i p ps c v e = rw (v, named_same g i p c e)
 
-module _ (words f : List ℕ) (g at i n c : ℕ) (p : Point) (h : i < n) (ep : p ≡ point_at f at) (ec : c ≡ cell g p.x p.y p.z) (inside : c < cube g) (d : Entering words f g at i n) where
+module _ (words f : List ℕ) (g i n c : ℕ) (p : Point) (h : i < n) (ep : p ≡ point_at f (64 + 16 * i)) (ec : c ≡ cell g p.x p.y p.z) (inside : c < cube g) (d : Entering words f g i n) where
   abbrev rest : List Point
-  rest = points_at f (at + 16) (n - (i + 1))
+  rest = points_at f (64 + 16 * (i + 1)) (n - (i + 1))
 
-  is_cell : cell_of g (point_at f at) ≡ c
+  is_cell : cell_of g (point_at f (64 + 16 * i)) ≡ c
   is_cell = unfold cell_of in sym (ec ∙ ap (λ (q : Point). cell g q.x q.y q.z) ep)
 
-  first_is : points_at f at (n - i) ≡ point_at f at ∷ rest
+  first_is : points_at f (64 + 16 * i) (n - i) ≡ point_at f (64 + 16 * i) ∷ rest
   first_is =
       let more : n - i ≡ suc (n - (i + 1)) = omega arith in
-      ap (points_at f at) more ∙ (unfold points_at in refl)
+      let behind : 64 + 16 * (i + 1) ≡ 64 + 16 * i + 16 = omega arith in
+      rw (behind, more) (unfold points_at in refl)
 
   rest_works : working g (suc c) rest ≡ true
   rest_works =
-      let all : working g d.low (point_at f at ∷ rest) ≡ true = rw first_is at d.works in
-      rw is_cell at (behind_works g d.low (point_at f at) rest all)
+      let all : working g d.low (point_at f (64 + 16 * i) ∷ rest) ≡ true = rw first_is at d.works in
+      rw is_cell at (behind_works g d.low (point_at f (64 + 16 * i)) rest all)
 
   -- the record's cell is marked, and no later record names it
-  here : coming f g at i n c ≡ coming f g (at + 16) (i + 1) n c + 1
+  here : coming f g i n c ≡ coming f g (i + 1) n c + 1
   unfolding coming masses_in one
   here =
       let above : look_from g (i + 1) rest c ≡ vacant = working_above g (i + 1) (suc c) rest c rest_works (omega arith) in
       let later-none : look_from g (suc i) rest c ≡ vacant = working_above g (suc i) (suc c) rest c rest_works (omega arith) in
-      rw (first_is, above, alone g i (point_at f at) rest c later-none is_cell)
+      rw (first_is, above, alone g i (point_at f (64 + 16 * i)) rest c later-none is_cell)
 
-  elsewhere : (k : ℕ) → (k ≡ c → ⊥) → coming f g at i n k ≡ coming f g (at + 16) (i + 1) n k
-  elsewhere k e = unfold coming in rw first_is (ap (λ (s : Slot). one (masses_in s)) (look_past g i (point_at f at) rest k (λ t. e (sym t ∙ is_cell)) ∙ rw (add-one i)))
+  elsewhere : (k : ℕ) → (k ≡ c → ⊥) → coming f g i n k ≡ coming f g (i + 1) n k
+  elsewhere k e = unfold coming in rw first_is (ap (λ (s : Slot). one (masses_in s)) (look_past g i (point_at f (64 + 16 * i)) rest k (λ t. e (sym t ∙ is_cell)) ∙ rw (add-one i)))
 
   abbrev word_at : ℕ
   word_at = c / 32
@@ -120,10 +121,10 @@ module _ (words f : List ℕ) (g at i n c : ℕ) (p : Point) (h : i < n) (ep : p
   in_words : word_at < groups (cube g)
   in_words = group_of (cube g) c inside
 
-  grows : mark_word (coming f g at i n) (32 * word_at) 32 ≡ mark_word (coming f g (at + 16) (i + 1) n) (32 * word_at) 32 + 2 ^ (c % 32)
+  grows : mark_word (coming f g i n) (32 * word_at) 32 ≡ mark_word (coming f g (i + 1) n) (32 * word_at) 32 + 2 ^ (c % 32)
   grows =
       let digit : c - 32 * word_at ≡ c % 32 = omega arith in
-      rw digit at (word_more (coming f g (at + 16) (i + 1) n) (coming f g at i n) c here elsewhere (32 * word_at) 32 (omega arith) (omega arith))
+      rw digit at (word_more (coming f g (i + 1) n) (coming f g i n) c here elsewhere (32 * word_at) 32 (omega arith) (omega arith))
 
   pub word_there : 2 * word_at < length words
   word_there = omega (arith, in_words, d.space)
@@ -134,7 +135,7 @@ module _ (words f : List ℕ) (g at i n c : ℕ) (p : Point) (h : i < n) (ep : p
       let most : mark_word (mark f) (32 * word_at) 32 < 4294967296 = word_lt (mark f) (mark_bit f) (32 * word_at) 32 in
       rw (shifted (c % 32) (omega arith)) (omega (arith, d.each word_at in_words, grows, most))
 
-  pub enter_turn : Entering (set words (2 * word_at) (get_or words (2 * word_at) 0 + 1 * 2 ^ (c % 32) % 4294967296)) f g (at + 16) (i + 1) n
+  pub enter_turn : Entering (set words (2 * word_at) (get_or words (2 * word_at) 0 + 1 * 2 ^ (c % 32) % 4294967296)) f g (i + 1) n
   enter_turn = rw (shifted (c % 32) (omega arith))
       (record {
         space = rw (length-set words (2 * word_at) _) d.space;
@@ -144,7 +145,7 @@ module _ (words f : List ℕ) (g at i n c : ℕ) (p : Point) (h : i < n) (ep : p
       })
     where
       step : (k : ℕ) → k < groups (cube g)
-          → get_or (set words (2 * word_at) (get_or words (2 * word_at) 0 + 2 ^ (c % 32))) (2 * k) 0 + mark_word (coming f g (at + 16) (i + 1) n) (32 * k) 32 ≡ mark_word (mark f) (32 * k) 32
+          → get_or (set words (2 * word_at) (get_or words (2 * word_at) 0 + 2 ^ (c % 32))) (2 * k) 0 + mark_word (coming f g (i + 1) n) (32 * k) 32 ≡ mark_word (mark f) (32 * k) 32
       step k b = elim (ℕ_discrete k word_at) [
         | yes e ↦
             rw (e, get_or-set_same words (2 * word_at) (get_or words (2 * word_at) 0 + 2 ^ (c % 32)) 0 word_there) (omega (arith, d.each word_at in_words, grows))
@@ -153,10 +154,10 @@ module _ (words f : List ℕ) (g at i n c : ℕ) (p : Point) (h : i < n) (ep : p
             (ap (λ (m : ℕ). get_or words (2 * k) 0 + m) (sym (same k e)) ∙ d.each k b)
       ]
         where
-          same : (k : ℕ) → (k ≡ word_at → ⊥) → mark_word (coming f g at i n) (32 * k) 32 ≡ mark_word (coming f g (at + 16) (i + 1) n) (32 * k) 32
+          same : (k : ℕ) → (k ≡ word_at → ⊥) → mark_word (coming f g i n) (32 * k) 32 ≡ mark_word (coming f g (i + 1) n) (32 * k) 32
           same k e = elim (dec_lt k word_at) [
-            | yes l ↦ word_before (coming f g (at + 16) (i + 1) n) (coming f g at i n) c here elsewhere (32 * k) 32 (omega arith)
-            | no l ↦ word_kept (coming f g (at + 16) (i + 1) n) (coming f g at i n) c here elsewhere (32 * k) 32 (omega arith)
+            | yes l ↦ word_before (coming f g (i + 1) n) (coming f g i n) c here elsewhere (32 * k) 32 (omega arith)
+            | no l ↦ word_kept (coming f g (i + 1) n) (coming f g i n) c here elsewhere (32 * k) 32 (omega arith)
           ]
 
 none_coming : (p : ℕ → ℕ) → ((c : ℕ) → p c ≡ 0) → (c k : ℕ) → mark_word p c k ≡ 0
@@ -164,16 +165,16 @@ unfolding mark_word
 none_coming p all c zero = refl
 none_coming p all c (suc k) = rw (all c, none_coming p all (suc c) k)
 
-none_behind : (f : List ℕ) (g at i n c : ℕ) → n ≤ i → coming f g at i n c ≡ 0
+none_behind : (f : List ℕ) (g i n c : ℕ) → n ≤ i → coming f g i n c ≡ 0
 unfolding coming points_at look_from masses_in one
-none_behind f g at i n c h = let no : n - i ≡ 0 = omega arith in ap (λ (k : ℕ). one (masses_in (look_from g i (points_at f at k) c))) no
+none_behind f g i n c h = let no : n - i ≡ 0 = omega arith in ap (λ (k : ℕ). one (masses_in (look_from g i (points_at f (64 + 16 * i) k) c))) no
 
-pub enter_end : (words f : List ℕ) (g at i n : ℕ) → g ≡ grid f → n ≤ i → Entering words f g at i n → Entered words f
-enter_end words f g at i n eg e d =
-    record { room = rw eg at d.space; marks = λ k b. let all = d.each k (rw eg b) in omega (arith, all, none_coming (coming f g at i n) none_left (32 * k) 32) }
+pub enter_end : (words f : List ℕ) (g i n : ℕ) → g ≡ grid f → n ≤ i → Entering words f g i n → Entered words f
+enter_end words f g i n eg e d =
+    record { room = rw eg at d.space; marks = λ k b. let all = d.each k (rw eg b) in omega (arith, all, none_coming (coming f g i n) none_left (32 * k) 32) }
   where
-    none_left : (c : ℕ) → coming f g at i n c ≡ 0
-    none_left c = none_behind f g at i n c e
+    none_left : (c : ℕ) → coming f g i n c ≡ 0
+    none_left c = none_behind f g i n c e
 
 -- ---- totals
 

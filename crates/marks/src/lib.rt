@@ -2,11 +2,12 @@
 #![tactic(auto)]
 
 ghost use Rattle.std.specs.Prelude.{◌≡◌, ℕ, ◌+◌, ◌*◌, ◌%◌, ◌≤◌, ◌<◌, length, get_or};
-ghost use Rattle.rym1.specs.File.{grid, count, cube, groups, file_cause, work_cause};
+ghost use Rattle.rym1.specs.File.{grid, cube, groups};
 ghost use Rattle.marks.specs.Marks.{mark, tally, Entered, Marked};
 
-use lookup::{cells, clear};
-use points::records::{cell_number, count, grid, point_at};
+use lookup::cells;
+use points::file::{PointFile, WorkingFile};
+use points::records::cell_number;
 
 // How many words marks and totals take.
 pub fn room(g: u32) -> usize
@@ -17,89 +18,88 @@ pub fn room(g: u32) -> usize
 }
 
 // Each record's mark. No two records name one cell, so a mark is added, and nothing is carried.
-fn enter_marks(words: &mut [u32], file: &[u8], g: u32, n: u32)
-    requires works { (file_cause file.now ≡ 0) × (work_cause file.now ≡ 0) × (g ≡ grid file.now) × (n ≡ count file.now) }
-    requires cleared { (2 * groups (cube g) ≤ length words.old) × ((k : ℕ) → k < 2 * groups (cube g) → get_or words.old k 0 ≡ 0) }
-    ensures { Entered words.new file.now × (length words.new ≡ length words.old) }
+fn enter_marks(words: &mut [u32], file: WorkingFile<'_>)
+    requires cleared { (2 * groups (cube (grid file.file.bytes.now)) ≤ length words.old)
+        × ((k : ℕ) → k < 2 * groups (cube (grid file.file.bytes.now)) → get_or words.old k 0 ≡ 0) }
+    ensures { Entered words.new file.entry.file.bytes.now × (length words.new ≡ length words.old) }
 {
-    let mut at: usize = 64;
-    let mut i: u32 = 0;
-    while i < n {
-        let p = point_at(file, at);
+    let records = file.file;
+    let g = records.grid();
+    let n = records.count();
+    for i in 0..n {
+        let p = records.point(i);
         let c = cell_number(g, p.x, p.y, p.z);
         words[2 * (c / 32) as usize] += 1u32 << (c % 32);
-        i += 1;
-        at += 16;
     }
 }
 
 // The running totals, of n pairs.
-fn enter_totals(words: &mut [u32], file: &[u8], n: usize)
-    requires accepted { file_cause file.now ≡ 0 }
-    requires entered { Entered words.old file.now }
-    requires pairs { n ≡ groups (cube (grid file.now)) }
-    ensures { Marked words.new file.now × (length words.new ≡ length words.old) }
+fn enter_totals(words: &mut [u32], file: PointFile<'_>, n: usize)
+    requires entered { Entered words.old file.bytes.now }
+    requires pairs { n ≡ groups (cube (grid file.bytes.now)) }
+    ensures { Marked words.new file.entry.bytes.now × (length words.new ≡ length words.old) }
 {
     let mut total: u32 = 0;
-    let mut i: usize = 0;
-    while i < n {
+    for i in 0..n {
         words[2 * i + 1] = total;
         total += u32::count_ones(words[2 * i]);
-        i += 1;
     }
 }
 
 // Marks and totals of a file in working form.
-pub fn fill_marks(words: &mut [u32], file: &[u8])
-    requires works { (file_cause file.now ≡ 0) × (work_cause file.now ≡ 0) }
-    requires room { 2 * groups (cube (grid file.now)) ≤ length words.old }
-    ensures { Marked words.new file.now × (length words.new ≡ length words.old) }
+pub fn fill_marks(words: &mut [u32], file: WorkingFile<'_>)
+    requires { 2 * groups (cube (grid file.file.bytes.now)) ≤ length words.old }
+    ensures { Marked words.new file.entry.file.bytes.now × (length words.new ≡ length words.old) }
 {
-    let g = grid(file);
-    let all = room(g);
-    clear(words, all);
-    enter_marks(words, file, g, count(file));
-    enter_totals(words, file, all / 2);
+    let all = room(file.file.grid());
+    words[..all].fill(0);
+    enter_marks(words, file);
+    enter_totals(words, file.file, all / 2);
 }
 
-// How many occupied cells are below a cell, the total before its word plus the marks below it: in working form its index, if it is occupied.
-pub fn index_of(words: &[u32], file: &[u8], c: u32) -> u32
-    requires accepted { file_cause file.now ≡ 0 }
-    requires marked { Marked words.now file.now }
-    requires in_grid { c < cube (grid file.now) }
-    ensures { (result ≡ tally (mark file.now) 0 c) × (result ≤ c) }
-{
-    let at = 2 * (c / 32) as usize;
-    let below = (1u32 << (c % 32)) - 1;
-    words[at + 1] + u32::count_ones(words[at] & below)
+// Words that hold the marks and totals of a file.
+#[derive(Clone, Copy)]
+pub struct Marks<'a> {
+    pub words: &'a [u32],
+    pub file: PointFile<'a>,
+    pub ghost filled: { Marked words.now file.bytes.now },
 }
 
-// How many of w cells from c on, all of one word, are occupied.
-fn count_within(words: &[u32], file: &[u8], c: u32, w: u32) -> u32
-    requires entered { Entered words.now file.now }
-    requires in_word { (c < cube (grid file.now)) × (0 < w) × (c % 32 + w ≤ 32) }
-    ensures { (result ≡ tally (mark file.now) c w) × (result ≤ w) }
-{
-    let mask = 2 * ((1u32 << (w - 1)) - 1) + 1;
-    let marks = words[2 * (c / 32) as usize] >> (c % 32) & mask;
-    if marks == mask {
-        return w;
+impl Marks<'_> {
+    // How many occupied cells are below a cell, the total before its word plus the marks below it: in working form its index, if it is occupied.
+    pub fn index_of(self, c: u32) -> u32
+        requires { c < cube (grid self.file.bytes.now) }
+        ensures { (result ≡ tally (mark self.entry.file.bytes.now) 0 c) × (result ≤ c) }
+    {
+        let at = 2 * (c / 32) as usize;
+        let below = (1u32 << (c % 32)) - 1;
+        self.words[at + 1] + u32::count_ones(self.words[at] & below)
     }
-    u32::count_ones(marks)
-}
 
-// How many of w cells from c on are occupied, `index` being how many are below c.
-pub fn count_of(words: &[u32], file: &[u8], c: u32, w: u32, index: u32) -> u32
-    requires accepted { file_cause file.now ≡ 0 }
-    requires marked { Marked words.now file.now }
-    requires in_grid { (0 < w) × (c + w ≤ cube (grid file.now)) × (index ≡ tally (mark file.now) 0 c) }
-    ensures { result ≡ tally (mark file.now) c w }
-{
-    if c % 32 + w <= 32 {
-        return count_within(words, file, c, w);
+    // How many of w cells from c on, all of one word, are occupied.
+    fn count_within(self, c: u32, w: u32) -> u32
+        requires { (c < cube (grid self.file.bytes.now)) × (0 < w) × (c % 32 + w ≤ 32) }
+        ensures { (result ≡ tally (mark self.entry.file.bytes.now) c w) × (result ≤ w) }
+    {
+        let mask = 2 * ((1u32 << (w - 1)) - 1) + 1;
+        let marks = self.words[2 * (c / 32) as usize] >> (c % 32) & mask;
+        if marks == mask {
+            return w;
+        }
+        u32::count_ones(marks)
     }
-    let last = c + (w - 1);
-    let k = last % 32;
-    let total = words[2 * (last / 32) as usize + 1];
-    total + count_within(words, file, last - k, k + 1) - index
+
+    // How many of w cells from c on are occupied, `index` being how many are below c.
+    pub fn count_of(self, c: u32, w: u32, index: u32) -> u32
+        requires { (0 < w) × (c + w ≤ cube (grid self.file.bytes.now)) × (index ≡ tally (mark self.file.bytes.now) 0 c) }
+        ensures { result ≡ tally (mark self.entry.file.bytes.now) c w }
+    {
+        if c % 32 + w <= 32 {
+            return self.count_within(c, w);
+        }
+        let last = c + (w - 1);
+        let k = last % 32;
+        let total = self.words[2 * (last / 32) as usize + 1];
+        total + self.count_within(last - k, k + 1) - index
+    }
 }

@@ -1,16 +1,15 @@
--- What is left once the finds' records stand in the output, way by way: 20, or the file. Assumes nothing.
+-- What is left once the finds' records stand in the output: 20, or the file. Assumes nothing.
 use Prim.Native.Nat.{ℕ, ◌+◌, ◌*◌, ◌≤◌}
-use mathlib.Core.Path.{◌≡◌, refl, sym, ap, ◌∙◌}
-use mathlib.Core.Bool.{Bool, true, false}
+use mathlib.Core.Path.{◌≡◌, refl, sym, ◌∙◌}
+use mathlib.Core.Bool.{true, false}
 use mathlib.Core.List.{List, ◌++◌}
 use native.Mathlib.Omega.{arith}
 use lib.ListN.{length, get_or, replicate}
 use lib.Ieee.{Float}
+use Rattle.std.specs.Prelude.{Result, Ok, Err}
 use Rattle.float.specs.Narrow.{float_word, float_words}
+use Rattle.rym1.specs.declared.Cause.{Cause}
 use Rattle.rym1.specs.declared.Cause.TheVariants.{FloatNotFinite}
-use Rattle.rym1.specs.declared.Answer.{Answer}
-use Rattle.rym1.specs.declared.Answer.TheVariants.{Refused, Length}
-use Rattle.rym1.specs.declared.Point.{Point}
 use Rattle.rym1.specs.Bytes.{splice, words_bytes}
 use Rattle.rym1.specs.Causes.{number, told, outcome}
 use Rattle.rym1.specs.File.{finite, all_finite, size, points_at, points_bytes}
@@ -39,51 +38,46 @@ pub scale_word : (f : Frame) (w : Found) (target density : Float) → get_or (fl
 unfolding header_floats float_words
 scale_word f w target density = refl
 
-module _ (g : ℕ) (f : Frame) (w : Found) (target density : Float) (out : List ℕ) (room : 64 + 16 * w.count ≤ length out) where
+-- the elliptic scale, the header's floats and the scaled masses decide
+module _ (f : Frame) (w : Found) (target density : Float) (out : List ℕ) where
+  pub no_scale : finite (float_word (scale_of target w.elliptic)) ≡ false → all_fine f w target density out ≡ false
+  unfolding all_fine
+  no_scale h = rw h
+
+  module _ (scale : finite (float_word (scale_of target w.elliptic)) ≡ true) where
+    pub no_floats : all_finite (float_words (header_floats f w target density)) ≡ false → all_fine f w target density out ≡ false
+    unfolding all_fine
+    no_floats h = rw (scale, h)
+
+    -- k and l: the words of the scales
+    module _ (floats : all_finite (float_words (header_floats f w target density)) ≡ true) (k l : ℕ) (ek : k ≡ float_word (scale_of target w.cauchy)) (el : l ≡ float_word (scale_of target w.elliptic)) where
+      pub points_are : scaled_points k l (points_at out 64 w.count) ≡ written_points w target out
+      unfolding written_points
+      points_are = λ i. scaled_points (ek i) (el i) (points_at out 64 w.count)
+
+      pub by_masses : all_fine f w target density out ≡ masses_finite (scaled_points k l (points_at out 64 w.count))
+      unfolding all_fine
+      by_masses = rw (scale, floats, points_are)
+
+module _ (g : ℕ) (f : Frame) (w : Found) (target density : Float) (out : List ℕ) where
   -- 20, the output as long as it was
-  way_20 : all_fine f w target density out ≡ false → (out₁ : List ℕ) → length out₁ ≡ length out → (a : Answer) (out₂ : List ℕ) → a ≡ Refused FloatNotFinite → out₂ ≡ replicate (length out₁) 0
+  pub way_20 : all_fine f w target density out ≡ false → (out₁ : List ℕ) → length out₁ ≡ length out → (a : Result ℕ Cause) (out₂ : List ℕ) → a ≡ Err FloatNotFinite → out₂ ≡ replicate (length out₁) 0
       → outcome (told a) out₂ ≡ finished g f w target density out
   unfolding finished cleared told number
   way_20 bad out₁ same a out₂ ea e₂ = rw (bad, ea, e₂, same)
 
-  pub way_scale : finite (float_word (scale_of target w.elliptic)) ≡ false → (a : Answer) (out₂ : List ℕ) → a ≡ Refused FloatNotFinite → out₂ ≡ replicate (length out) 0
-      → outcome (told a) out₂ ≡ finished g f w target density out
-  way_scale h a out₂ ea e₂ = way_20 (unfold all_fine in rw h) out refl a out₂ ea e₂
-
-  module _ (scale : finite (float_word (scale_of target w.elliptic)) ≡ true) where
-    pub way_floats : all_finite (float_words (header_floats f w target density)) ≡ false → (a : Answer) (out₂ : List ℕ) → a ≡ Refused FloatNotFinite → out₂ ≡ replicate (length out) 0
-        → outcome (told a) out₂ ≡ finished g f w target density out
-    way_floats h a out₂ ea e₂ = way_20 (unfold all_fine in rw (scale, h)) out refl a out₂ ea e₂
-
-    -- out₁: the output once the masses are scaled by the words k and l, where all are finite
-    module _ (floats : all_finite (float_words (header_floats f w target density)) ≡ true) (k l : ℕ) (ek : k ≡ float_word (scale_of target w.cauchy)) (el : l ≡ float_word (scale_of target w.elliptic))
-        (out₁ : List ℕ) (long : length out₁ ≡ length out) {r : Bool} (er : r ≡ masses_finite (scaled_points k l (points_at out 64 w.count)))
-        (e₁ : r ≡ true → out₁ ≡ splice out 64 (points_bytes (scaled_points k l (points_at out 64 w.count)))) where
-      points_are : scaled_points k l (points_at out 64 w.count) ≡ written_points w target out
-      unfolding written_points
-      points_are = λ i. scaled_points (ek i) (el i) (points_at out 64 w.count)
-
-      scaled_is : r ≡ true → out₁ ≡ splice out 64 (points_bytes (written_points w target out))
-      scaled_is good = e₁ good ∙ ap (λ (ps : List Point). splice out 64 (points_bytes ps)) points_are
-
-      masses_are : masses_finite (written_points w target out) ≡ r
-      masses_are = sym (er ∙ ap masses_finite points_are)
-
-      pub way_masses : r ≡ false → (a : Answer) (out₂ : List ℕ) → a ≡ Refused FloatNotFinite → out₂ ≡ replicate (length out₁) 0
-          → outcome (told a) out₂ ≡ finished g f w target density out
-      way_masses h a out₂ ea e₂ = way_20 (unfold all_fine in rw (scale, floats, masses_are ∙ h)) out₁ long a out₂ ea e₂
-
-      -- the header right before the records
-      pub way_file : r ≡ true → (header : List ℕ) → header ≡ header_of g f w target density → (out₂ : List ℕ) → out₂ ≡ splice out₁ 0 (words_bytes header)
-          → outcome (told (Length (64 + 16 * w.count))) out₂ ≡ finished g f w target density out
-      unfolding finished all_fine told size
-      way_file good header eh out₂ e₂ =
-          let words = words_bytes (header_of g f w target density) in
-          let records = points_bytes (written_points w target out) in
-          let head = header_long g f w target density in
-          let written = length_written w target out in
-          let both : out₂ ≡ splice out 0 (words ++ records) =
-          e₂ ∙ (λ i. splice (scaled_is good i) 0 (words_bytes (eh i)))
-          ∙ sym (splice_comm out 0 64 words records (omega arith) (omega arith))
-          ∙ splice_splice out 0 words records 64 (omega arith) (omega arith) in
-          rw (scale, floats, masses_are ∙ good, both)
+  -- the header right before the records
+  pub way_file : 64 + 16 * w.count ≤ length out → all_fine f w target density out ≡ true → (out₁ : List ℕ) → out₁ ≡ splice out 64 (points_bytes (written_points w target out))
+      → (header : List ℕ) → header ≡ header_of g f w target density → (out₂ : List ℕ) → out₂ ≡ splice out₁ 0 (words_bytes header)
+      → outcome (told (Ok (64 + 16 * w.count))) out₂ ≡ finished g f w target density out
+  unfolding finished told size
+  way_file room good out₁ e₁ header eh out₂ e₂ =
+      let words = words_bytes (header_of g f w target density) in
+      let records = points_bytes (written_points w target out) in
+      let head = header_long g f w target density in
+      let written = length_written w target out in
+      let both : out₂ ≡ splice out 0 (words ++ records) =
+      e₂ ∙ (λ i. splice (e₁ i) 0 (words_bytes (eh i)))
+      ∙ sym (splice_comm out 0 64 words records (omega arith) (omega arith))
+      ∙ splice_splice out 0 words records 64 (omega arith) (omega arith) in
+      rw (good, both)

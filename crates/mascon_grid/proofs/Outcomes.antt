@@ -7,47 +7,41 @@ use native.Mathlib.Omega.{arith}
 use lib.ListN.{length, drop, replicate, length-append}
 use lib.Dec.{ltb}
 use lib.Ieee.{Float}
-use borrow.Author.Tests.{lt-ltb, le-ltb, ne_eqb, ltb-false, not-true, not-false}
+use Rattle.std.proofs.Common.{Option, Some, None, Result, Err}
+use borrow.Author.Tests.{le-ltb, ne_eqb, ltb-false, not-true, not-false}
 use Rattle.float.specs.Narrow.{float_word, float_words}
 use Rattle.float.specs.Number.{zero64, one64}
 use Rattle.rym1.specs.declared.Cause.{Cause}
-use Rattle.rym1.specs.declared.Cause.TheVariants.{ListWrong, ScratchShort, OutputShort, BoxFlat, CapacityExceeded, FloatNotFinite}
-use Rattle.rym1.specs.declared.Answer.{Answer}
-use Rattle.rym1.specs.declared.Answer.TheVariants.{Refused}
+use Rattle.rym1.specs.declared.Cause.TheVariants.{CapacityExceeded, FloatNotFinite}
 use Rattle.rym1.specs.declared.Point.{Point}
 use Rattle.rym1.specs.Bytes.{splice, words_bytes}
 use Rattle.rym1.specs.Causes.{number, told, when, first, Outcome, outcome, refuse}
 use Rattle.rym1.specs.File.{size, grid_cause, finite, all_finite, points_bytes}
-use Rattle.rym1.proofs.Causes.{or_false_l, first_found, refuse_found}
-use Rattle.rym1.proofs.Accepted.{grid_right}
 use Rattle.rym1.proofs.Bytes.{drop_splice}
 use Rattle.rym1.proofs.Points.{AllFit}
 use Rattle.filling.specs.declared.Frame.{Frame}
-use Rattle.filling.specs.Lists.{mesh, kernels, mesh_wrong}
+use Rattle.filling.specs.Lists.{mesh, kernels}
 use Rattle.filling.specs.Inside.{bounds}
 use Rattle.filling.specs.Frame.{frame}
 use Rattle.filling.specs.Fill.{Task, task, capacity, inner, frame_of, cells_of, raw_from, raw_of, scale_of, scale_by, records_of, measures, corners, raw_sums, header_words, file_bytes}
 use Rattle.filling.specs.Fill.{masses_finite, floats_finite, box_flat, lists_wrong, fill_cause, cleared, filled, fill, early}
-use Rattle.filling.proofs.Lists.{mesh_good}
 use Rattle.visit.specs.declared.Found.{Found}
-use Rattle.visit.specs.declared.Visit.{Visit}
-use Rattle.visit.specs.declared.Visit.TheVariants.{Done, Full}
-use Rattle.visit.specs.Visited.{raw_point, raw_points, found, visited, Visiting, Ready}
+use Rattle.visit.specs.Visited.{raw_point, raw_points, found, visited, Visiting}
 use Rattle.mascon_grid.specs.Scaled.{scaled_points, header_floats, header_around, header_of, written_points, all_fine, finished}
 use Rattle.mascon_grid.proofs.Finished.{header_long, length_written}
 use Rattle.mascon_grid.proofs.Raw.{inner_fit, raw_long, raw_at, scaled_are, scaled_back, scale_back, scale_small, scale_none, one_finite}
 
 -- ---- what a visit's answer tells
 
-full_tells : (b : Bool) (w : Found) → Full ≡ cond b Full (Done w) → b ≡ true
+full_tells : (b : Bool) (w : Found) → None ≡ cond b None (Some w) → b ≡ true
 full_tells true w e = refl
 full_tells false w e = cc
 
-done_tells : (b : Bool) (w v : Found) → Done w ≡ cond b Full (Done v) → (b ≡ false) × (w ≡ v)
+done_tells : (b : Bool) (w v : Found) → Some w ≡ cond b None (Some v) → (b ≡ false) × (w ≡ v)
 done_tells true w v e = (cc, cc)
 done_tells false w v e = (refl, cc)
 
--- ---- fill_frame: the visit's answer is Full, or its finds w; f is the task's frame
+-- ---- fill_grid: the visit's answer is none, or its finds w; f is the task's frame
 
 -- a write over all of an earlier one
 over : (s : List ℕ) (at : ℕ) (u v : List ℕ) → at + length u ≤ length v → at ≤ length s → splice (splice s at u) 0 v ≡ splice s 0 v
@@ -56,13 +50,13 @@ over s at u v e b =
     let split : (l : List ℕ) → splice l 0 v ≡ v ++ drop (0 + length v) l = λ l. unfold splice in refl in
     rw (split (splice s at u), back, split s)
 
-abbrev Visits : Task → List ℕ → Visit → List ℕ → Type 0
+abbrev Visits : Task → List ℕ → Option Found → List ℕ → Type 0
 Visits t out r out' = Visiting (frame_of t) t.grid (kernels t.cauchy) (kernels t.elliptic) (cells_of t) out r out'
 
 abbrev raws : Task → List Point
 raws t = raw_points (frame_of t) t.grid (kernels t.cauchy) (kernels t.elliptic) (cells_of t)
 
-visit_full : (t : Task) (out out' : List ℕ) → Visits t out Full out' → length out' ≡ length out → outcome 18 (replicate (length out') 0) ≡ filled t out
+visit_full : (t : Task) (out out' : List ℕ) → Visits t out None out' → length out' ≡ length out → outcome 18 (replicate (length out') 0) ≡ filled t out
 unfolding filled cleared visited
 visit_full t out out' v same =
     let many : ltb (capacity t.grid) (length (cells_of t)) ≡ true = full_tells _ _ v.answer in
@@ -102,7 +96,7 @@ elliptic_fine t = go (cells_of t) refl
         (unfold raw_points in ap masses_finite (scaled_are t (c ∷ cs)) ∙ h)
 
 module _ (t : Task) (out out' : List ℕ) (pos : 0 < t.grid) (few : t.grid ≤ 256) (room : size (capacity t.grid) ≤ length out) (w : Found)
-    (v : Visits t out (Done w) out') where
+    (v : Visits t out (Some w) out') where
   cells_few : ltb (capacity t.grid) (length (cells_of t)) ≡ false
   unfolding visited
   cells_few = (done_tells _ _ _ v.answer).0
@@ -198,35 +192,35 @@ module _ (t : Task) (out out' : List ℕ) (pos : 0 < t.grid) (few : t.grid ≤ 2
     visit_done = rw (cells_few, file_left, fine_is, count_is, same)
 
 -- the same, as the code has them: m, c and e are the lists' bytes, r what the visit answered
-module _ (g : ℕ) (m c e : List ℕ) (target density : Float) (f : Frame) (ef : f ≡ frame (bounds (mesh m)) g) (out out' : List ℕ) {r : Visit}
+module _ (g : ℕ) (m c e : List ℕ) (target density : Float) (f : Frame) (ef : f ≡ frame (bounds (mesh m)) g) (out out' : List ℕ) {r : Option Found}
     (v : Visiting f g (kernels c) (kernels e) (inner (mesh m) f g) out r out') where
-  of_task : (r' : Visit) → r ≡ r' → Visits (task g m c e target density) out r' out'
+  of_task : (r' : Option Found) → r ≡ r' → Visits (task g m c e target density) out r' out'
   unfolding frame_of cells_of
   of_task r' er =
-      subst (λ (a : Visit). Visits (task g m c e target density) out a out') er (subst (λ (h : Frame). Visiting h g (kernels c) (kernels e) (inner (mesh m) h g) out r out') ef v)
+      subst (λ (a : Option Found). Visits (task g m c e target density) out a out') er (subst (λ (h : Frame). Visiting h g (kernels c) (kernels e) (inner (mesh m) h g) out r out') ef v)
 
-  pub way_18 : r ≡ Full → length out' ≡ length out → (a : Answer) (out₁ : List ℕ) → a ≡ Refused CapacityExceeded → out₁ ≡ replicate (length out') 0
+  pub way_18 : r ≡ None → length out' ≡ length out → (a : Result ℕ Cause) (out₁ : List ℕ) → a ≡ Err CapacityExceeded → out₁ ≡ replicate (length out') 0
       → outcome (told a) out₁ ≡ filled (task g m c e target density) out
   unfolding told number
-  way_18 er same a out₁ ea e₁ = (λ i. outcome (told (ea i)) (e₁ i)) ∙ visit_full (task g m c e target density) out out' (of_task Full er) same
+  way_18 er same a out₁ ea e₁ = (λ i. outcome (told (ea i)) (e₁ i)) ∙ visit_full (task g m c e target density) out out' (of_task None er) same
 
-  module _ {s : List Float} (ok : Ready m g s out) (w : Found) (er : r ≡ Done w) (same : length out' ≡ length out) where
-    pub way_large : w.large ≡ true → (a : Answer) (out₁ : List ℕ) → a ≡ Refused FloatNotFinite → out₁ ≡ replicate (length out') 0
+  module _ (pos : 0 < g) (few : g ≤ 256) (room : size (capacity g) ≤ length out) (w : Found) (er : r ≡ Some w) (same : length out' ≡ length out) where
+    pub way_large : w.large ≡ true → (a : Result ℕ Cause) (out₁ : List ℕ) → a ≡ Err FloatNotFinite → out₁ ≡ replicate (length out') 0
         → outcome (told a) out₁ ≡ filled (task g m c e target density) out
     unfolding told number
     way_large h a out₁ ea e₁ =
-        (λ i. outcome (told (ea i)) (e₁ i)) ∙ visit_large (task g m c e target density) out out' ok.some ok.few ok.room w (of_task (Done w) er) h same
+        (λ i. outcome (told (ea i)) (e₁ i)) ∙ visit_large (task g m c e target density) out out' pos few room w (of_task (Some w) er) h same
 
     module _ (fine : w.large ≡ false) where
       pub finds_room : 64 + 16 * w.count ≤ length out'
-      finds_room = visit_room (task g m c e target density) out out' ok.some ok.few ok.room w (of_task (Done w) er) same fine
+      finds_room = visit_room (task g m c e target density) out out' pos few room w (of_task (Some w) er) same fine
 
       pub way_finished : {done : Outcome (List ℕ)} → done ≡ finished g f w target density out' → done ≡ filled (task g m c e target density) out
       unfolding frame_of
       way_finished is =
           is
           ∙ ap (λ (h : Frame). finished g h w target density out') ef
-          ∙ visit_done (task g m c e target density) out out' ok.some ok.few ok.room w (of_task (Done w) er) same fine
+          ∙ visit_done (task g m c e target density) out out' pos few room w (of_task (Some w) er) same fine
 
 -- ---- build_mascon
 
@@ -246,40 +240,20 @@ filled_late t out = go (ltb (capacity t.grid) (length (cells_of t))) (floats_fin
     go false false = unfold early in refl
 
 -- s: the floats of scratch, s' what is left in them
-abbrev Filling : Task → List Float → List ℕ → Answer → List Float → List ℕ → Type 0
+abbrev Filling : Task → List Float → List ℕ → Result ℕ Cause → List Float → List ℕ → Type 0
 Filling t s out r s' out' = (outcome (told r) out' ≡ fill t (length s) out) × (early (told r) ≡ true → s' ≡ s)
 
 module _ (g : ℕ) (m c e : List ℕ) (target density : Float) (s : List Float) (out : List ℕ) where
-  pub way_3 : (cause : Cause) → number cause ≡ grid_cause g → 0 < grid_cause g → Filling (task g m c e target density) s out (Refused cause) s out
-  unfolding fill fill_cause told
-  way_3 cause is h = (rw (is, first_found (grid_cause g) (first (when _ 17) _) h) (sym (refuse_found (grid_cause g) out _ h)), λ _. refl)
-
-  module _ (ok : grid_cause g ≡ 0) {b : Bool} (eb : b ≡ lists_wrong m c e target density) where
-    pub way_17 : b ≡ true → Filling (task g m c e target density) s out (Refused ListWrong) s out
-    unfolding fill fill_cause first when refuse outcome told number
-    way_17 h = (rw (ok, ← eb, h), λ _. refl)
-
-    module _ (right : b ≡ false) where
-      pub way_8 : length s < length m / 72 → Filling (task g m c e target density) s out (Refused ScratchShort) s out
-      unfolding fill fill_cause first when refuse outcome told number
-      way_8 h = (rw (ok, ← eb, right, lt-ltb (length s) (length m / 72) h), λ _. refl)
-
-      module _ (scratch : length m / 72 ≤ length s) (k : ℕ) (ek : k ≡ capacity g) where
-        pub way_9 : length out < 64 + 16 * k → Filling (task g m c e target density) s out (Refused OutputShort) s out
-        unfolding fill fill_cause first when refuse outcome told number size
-        way_9 h =
-            (rw (ok, ← eb, right, le-ltb (length s) (length m / 72) scratch, ← ek, lt-ltb (length out) (64 + 16 * k) h), λ _. refl)
-
-        module _ (room : 64 + 16 * k ≤ length out) where
-          pub ready : Ready m g s out
-          unfolding size lists_wrong
-          ready = record { some = (grid_right g ok).0; few = (grid_right g ok).1; good = mesh_good m (or_false_l (mesh_wrong m) _ (sym eb ∙ right)); scratch = scratch; room = rw (← ek) room }
-
-          module _ (f : Frame) (ef : f ≡ frame (bounds (mesh m)) g) {q : Bool} (eq : q ≡ box_flat f) where
-            pub way_19 : q ≡ true → Filling (task g m c e target density) s out (Refused BoxFlat) s out
-            unfolding fill fill_cause first when refuse outcome told number size frame_of
-            way_19 h = (
-              rw (
+  module _ (ok : grid_cause g ≡ 0) {b : Bool} (eb : b ≡ lists_wrong m c e target density) (right : b ≡ false) (scratch : length m / 72 ≤ length s)
+      (k : ℕ) (ek : k ≡ capacity g) (room : 64 + 16 * k ≤ length out) (f : Frame) (ef : f ≡ frame (bounds (mesh m)) g) {q : Bool} (eq : q ≡ box_flat f) where
+    pub way_filled : q ≡ false → (r : Result ℕ Cause) (s' : List Float) (out' : List ℕ) → outcome (told r) out' ≡ filled (task g m c e target density) out
+        → Filling (task g m c e target density) s out r s' out'
+    unfolding fill fill_cause first when refuse size frame_of outcome
+    way_filled h r s' out' done =
+        let t = task g m c e target density in
+        let answer : told r ≡ (filled t out).answer = ap (λ (o : Outcome (List ℕ)). o.answer) done in (
+          done
+              ∙ rw (
                 ok,
                 ← eb,
                 right,
@@ -290,26 +264,5 @@ module _ (g : ℕ) (m c e : List ℕ) (target density : Float) (s : List Float) 
                 ← eq,
                 h,
               ),
-              λ _. refl,
-            )
-
-            pub way_filled : q ≡ false → (r : Answer) (s' : List Float) (out' : List ℕ) → outcome (told r) out' ≡ filled (task g m c e target density) out
-                → Filling (task g m c e target density) s out r s' out'
-            unfolding fill fill_cause first when refuse size frame_of outcome
-            way_filled h r s' out' done =
-                let t = task g m c e target density in
-                let answer : told r ≡ (filled t out).answer = ap (λ (o : Outcome (List ℕ)). o.answer) done in (
-                  done
-                      ∙ rw (
-                        ok,
-                        ← eb,
-                        right,
-                        le-ltb (length s) (length m / 72) scratch,
-                        ← ek,
-                        le-ltb (length out) (64 + 16 * k) room,
-                        ← ef,
-                        ← eq,
-                        h,
-                      ),
-                  λ soon. absurd (true≢false (sym soon ∙ ap early answer ∙ filled_late t out)),
-                )
+          λ soon. absurd (true≢false (sym soon ∙ ap early answer ∙ filled_late t out)),
+        )

@@ -3,142 +3,120 @@
 
 pub mod scaling;
 
-ghost use Rattle.std.specs.Prelude.{◌≡◌, true, ◌+◌, ◌*◌, ◌≤◌, length, replicate};
-ghost use Rattle.rym1.specs.declared.Answer.TheVariants.{Refused};
+ghost use Rattle.std.specs.Prelude.{◌≡◌, true, ◌+◌, ◌*◌, ◌/◌, ◌≤◌, length, replicate};
 ghost use Rattle.rym1.specs.Causes.{told, outcome};
-ghost use Rattle.filling.specs.Lists.{mesh};
-ghost use Rattle.filling.specs.Inside.{test_box, bounds};
+ghost use Rattle.rym1.specs.File.{size};
+ghost use Rattle.filling.specs.Lists.{mesh as mesh_of};
+ghost use Rattle.filling.specs.Inside.{bounds};
 ghost use Rattle.filling.specs.Frame as def;
-ghost use Rattle.filling.specs.Fill.{task, lists_wrong, filled, fill, early};
-ghost use Rattle.visit.specs.Visited.{Ready};
+ghost use Rattle.filling.specs.Fill.{task, lists_wrong, capacity, filled, fill, early};
 ghost use Rattle.mascon_grid.specs.Scaled.{finished};
 
 use accelerator::{bounds_of, padded};
 use density::kernels_wrong;
-use filling::{Bounds, Frame};
-use float::Narrowed;
-use float::pattern::f32_to_bits;
-use model::{mesh_wrong, up_to};
-use points::judge::{grid_cause, is_refused};
-use rym1::{Answer, Cause};
-use scaling::{header_floats, header_of, scale_masses, scale_of};
+use model::{Mesh, mesh_wrong, up_to};
+use points::judge::grid_cause;
+use rym1::Cause;
+use scaling::{header_of, scale_records};
 use visit::frame::{box_flat, frame_of};
-use visit::{Found, Visit, capacity_of, visit_cells};
+use visit::{Found, Grid, capacity_of, visit_cells};
 
+// The call's six lists and numbers are no struct: they are judged first, and from then on `Grid` carries all but target and density.
 // 17.
+#[tactic(auto, unfolding(filling::specs::Fill::lists_wrong))]
 fn lists_wrong(triangles: &[u8], cauchy: &[u8], elliptic: &[u8], target: f64, density: f64) -> bool
     ensures { result ≡ lists_wrong triangles.now cauchy.now elliptic.now target density }
 {
-    if mesh_wrong(triangles) {
-        return true;
-    }
-    if kernels_wrong(cauchy) {
-        return true;
-    }
-    if kernels_wrong(elliptic) {
-        return true;
-    }
-    if !up_to(1e30, target) {
-        return true;
-    }
-    !up_to(1e30, density)
+    mesh_wrong(triangles)
+        || kernels_wrong(cauchy)
+        || kernels_wrong(elliptic)
+        || !up_to(1e30, target)
+        || !up_to(1e30, density)
 }
 
 // 18 and 20 zero the whole output.
-fn clear_refused(out: &mut [u8], cause: Cause) -> Answer
-    ensures { (result ≡ Refused cause) × (out.new ≡ replicate (length out.old) 0) }
+fn clear_refused(out: &mut [u8], cause: Cause) -> Result<u64, Cause>
+    ensures { (result ≡ Err cause) × (out.new ≡ replicate (length out.old) 0) }
 {
     binary::clear(out);
-    Answer::Refused(cause)
+    Err(cause)
 }
 
 // The finds w, whose records stand in `out` from 64 on: scaled, judged, and the header before them.
-fn finish(out: &mut [u8], g: u32, f: Frame, w: Found, target: f64, density: f64) -> Answer
+fn finish(out: &mut [u8], grid: &Grid, w: Found, target: f64, density: f64) -> Result<u64, Cause>
     requires { 64 + 16 * w.count ≤ length out.old }
-    ensures { outcome (told result) out.new ≡ finished g f w target density out.old }
+    ensures { outcome (told result) out.new ≡ finished grid.now.g grid.now.f w target density out.old }
 {
-    let count = w.count;
-    let narrowed = float::narrow(scale_of(target, w.elliptic));
-    let Narrowed::Finite(l) = narrowed else {
+    let Some(words) = scale_records(out, grid.f, w, target, density) else {
         return clear_refused(out, Cause::FloatNotFinite);
     };
-    let floats = header_floats(f, w, target, density);
-    let mut words = [0; 11];
-    if !binary::narrow_all(&floats, &mut words) {
-        return clear_refused(out, Cause::FloatNotFinite);
-    }
-    // the header has the Cauchy scale
-    if !scale_masses(out, count, words[2], f32_to_bits(l)) {
-        return clear_refused(out, Cause::FloatNotFinite);
-    }
-    let header = header_of(g, count, words);
-    binary::out_words(out, header);
-    let length = 64 + 16 * (count as u64);
-    Answer::Length(length)
+    binary::out_words(out, 0, header_of(grid.g, w.count, words));
+    Ok(64 + 16 * (w.count as u64))
 }
 
-// Fill, once 3 to 19 are passed: f is the mesh's frame, b the inside test's box.
-fn fill_frame(
-    triangles: &[u8],
-    cauchy: &[u8],
-    elliptic: &[u8],
-    b: Bounds,
-    f: Frame,
-    g: u32,
+// Fill, once 3 to 19 are passed: the grid's cells are those of the mesh's box.
+fn fill_grid(
+    grid: &Grid,
     target: f64,
     density: f64,
     floats: &mut [f64],
     out: &mut [u8],
-) -> Answer
-    requires ready { Ready triangles.now g floats.old out.old }
-    requires boxes { (b ≡ test_box (mesh triangles.now)) × (f ≡ def.frame (bounds (mesh triangles.now)) g) }
+) -> Result<u64, Cause>
+    requires frame { grid.now.f ≡ def.frame (bounds (mesh_of grid.now.mesh.bytes.now)) grid.now.g }
+    requires scratch { length grid.now.mesh.bytes.now / 72 ≤ length floats.old }
+    requires room { size (capacity grid.now.g) ≤ length out.old }
     ensures { outcome (told result) out.new
-        ≡ filled (task g triangles.now cauchy.now elliptic.now target density) out.old }
+        ≡ filled (task grid.now.g grid.now.mesh.bytes.now grid.now.cauchy.now grid.now.elliptic.now target density) out.old }
 {
-    let visit = visit_cells(triangles, cauchy, elliptic, b, f, g, floats, out);
-    let Visit::Done(w) = visit else {
+    let Some(w) = visit_cells(grid, floats, out) else {
         return clear_refused(out, Cause::CapacityExceeded);
     };
     if w.large {
         return clear_refused(out, Cause::FloatNotFinite);
     }
-    finish(out, g, f, w, target, density)
+    finish(out, grid, w, target, density)
 }
 
 // Fill: the point file of the mesh s into `out`.
-pub fn build_mascon(
+#[tactic(auto, using(rym1::proofs::Accepted::grid_right, filling::proofs::Lists::mesh_good), unfolding(filling::specs::Fill::lists_wrong, filling::specs::Fill::fill, filling::specs::Fill::fill_cause, filling::specs::Fill::frame_of, rym1::specs::File::size, rym1::specs::Causes::first, rym1::specs::Causes::when, rym1::specs::Causes::refuse, rym1::specs::Causes::outcome, rym1::specs::Causes::told, rym1::specs::Causes::judged, rym1::specs::Causes::number))]
+pub fn build_mascon<'a>(
     g: u32,
-    s: &[u8],
-    cauchy: &[u8],
-    elliptic: &[u8],
+    s: &'a [u8],
+    cauchy: &'a [u8],
+    elliptic: &'a [u8],
     target: f64,
     density: f64,
     floats: &mut [f64],
     out: &mut [u8],
-) -> Answer
+) -> Result<u64, Cause>
     ensures { (outcome (told result) out.new
         ≡ fill (task g s.now cauchy.now elliptic.now target density)
         (length floats.old) out.old)
         × (early (told result) ≡ true → floats.new ≡ floats.old) }
 {
-    let cause = grid_cause(g);
-    if is_refused(cause) {
-        return Answer::Refused(cause);
-    }
+    grid_cause(g)?;
     if lists_wrong(s, cauchy, elliptic, target, density) {
-        return Answer::Refused(Cause::ListWrong);
+        return Err(Cause::ListWrong);
     }
     if floats.len() < s.len() / 72 {
-        return Answer::Refused(Cause::ScratchShort);
+        return Err(Cause::ScratchShort);
     }
     if out.len() < 64 + 16 * (capacity_of(g) as usize) {
-        return Answer::Refused(Cause::OutputShort);
+        return Err(Cause::OutputShort);
     }
     let bounds = bounds_of(s);
     let f = frame_of(bounds, g);
     if box_flat(f) {
-        return Answer::Refused(Cause::BoxFlat);
+        return Err(Cause::BoxFlat);
     }
-    let b = padded(bounds);
-    fill_frame(s, cauchy, elliptic, b, f, g, target, density, floats, out)
+    let mesh = Mesh { bytes: s };
+    let grid = Grid {
+        mesh,
+        cauchy,
+        elliptic,
+        b: padded(bounds),
+        f,
+        g,
+    };
+    fill_grid(&grid, target, density, floats, out)
 }

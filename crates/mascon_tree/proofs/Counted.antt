@@ -25,8 +25,7 @@ use Rattle.runs.specs.declared.Form.{Form}
 use Rattle.runs.specs.Runs.{Ready}
 use Rattle.runs.proofs.Runs.{grid_few}
 use Rattle.mascon_tree.specs.declared.Next.{Next}
-use Rattle.mascon_tree.specs.declared.Judged.{Judged}
-use Rattle.mascon_tree.specs.declared.Judged.TheVariants.{Fits, TooLarge}
+use Rattle.std.specs.Prelude.{Option, None, Some}
 use Rattle.mascon_tree.specs.Written.{judged_of, Space}
 use Rattle.mascon_tree.proofs.Judging.{fits_is, large_is}
 
@@ -48,7 +47,7 @@ module _ (look : ℕ → Slot) (g : ℕ) (b : Cells) where
 
 -- ---- the root
 
-module _ (form : Form) (words f : List ℕ) (g : ℕ) (b : Cells) (ready : Ready form words f g) (e : b ≡ whole g) where
+module _ {form : Form} {words f : List ℕ} {g : ℕ} {b : Cells} (ready : Ready form words f g) (e : b ≡ whole g) where
   -- the box is the whole grid, its tree the file's
   pub root_within : Within g b
   root_within = rw (e, ready.gridded) (whole_within (grid f) (accepted f ready.accepted).grid_pos)
@@ -68,19 +67,24 @@ module _ (form : Form) (words f : List ℕ) (g : ℕ) (b : Cells) (ready : Ready
       subst (λ (t : Tree). Space false s 0 0 0 q t) (sym root_tree)
       (record { few = omega (arith, root_few); short = omega (arith, root_short); room = λ w. absurd (true≢false (sym w)) })
 
+-- the file's tree has no float that is too large, and so many nodes and order words
+pub record Fit (f : List ℕ) (all : Next) : Type 0 where
+  pub small : tree_large f (file_tree f) ≡ false
+  pub nodes : all.node ≡ node_count (file_tree f)
+  pub ordered : all.order ≡ length (order (file_tree f))
+
 -- what judging the whole tree came to
-module _ (f : List ℕ) (q : Frame) (eq : q ≡ frame_of f) (judged : Judged) (ej : judged ≡ judged_of q (file_tree f) 0 0) where
-  pub root_large : judged ≡ TooLarge → tree_large f (file_tree f) ≡ true
+module _ (f : List ℕ) (q : Frame) (eq : q ≡ frame_of f) (judged : Option Next) (ej : judged ≡ judged_of q (file_tree f) 0 0) where
+  pub root_large : judged ≡ None → tree_large f (file_tree f) ≡ true
   unfolding tree_large
   root_large e = subst (λ (r : Frame). some_large (nodes_floats r (file_tree f)) ≡ true) eq (large_is q (file_tree f) 0 0 (sym ej ∙ e))
 
-  module _ (all : Next) (e : judged ≡ Fits all) where
-    pub root_small : tree_large f (file_tree f) ≡ false
-    unfolding tree_large
-    root_small = subst (λ (r : Frame). some_large (nodes_floats r (file_tree f)) ≡ false) eq (fits_is q (file_tree f) 0 0 all (sym ej ∙ e)).0
-
-    pub root_nodes : all.node ≡ node_count (file_tree f)
-    root_nodes = ap (λ (n : Next). n.node) (fits_is q (file_tree f) 0 0 all (sym ej ∙ e)).1 ∙ zero-add (node_count (file_tree f))
-
-    pub root_ordered : all.order ≡ length (order (file_tree f))
-    root_ordered = ap (λ (n : Next). n.order) (fits_is q (file_tree f) 0 0 all (sym ej ∙ e)).1 ∙ zero-add (length (order (file_tree f)))
+  pub root_fits : (all : Next) → judged ≡ Some all → Fit f all
+  unfolding tree_large
+  root_fits all e =
+      let fits = fits_is q (file_tree f) 0 0 all (sym ej ∙ e) in
+      record {
+        small = subst (λ (r : Frame). some_large (nodes_floats r (file_tree f)) ≡ false) eq fits.0;
+        nodes = ap (λ (n : Next). n.node) fits.1 ∙ zero-add (node_count (file_tree f));
+        ordered = ap (λ (n : Next). n.order) fits.1 ∙ zero-add (length (order (file_tree f)));
+      }

@@ -1,13 +1,16 @@
 // Vectors and triangles (model.rs), and the mesh that is lent as little-endian bytes.
 #![tactic(auto)]
 
-ghost use Rattle.std.specs.Prelude.{◌≡◌, ◌+◌, ◌*◌, ◌≤◌, length};
-ghost use Rattle.filling.specs.Vector.{sub, cross, dot};
-ghost use Rattle.filling.specs.Lists.{vec3, triangle, triangles_at, up_to, vector_up_to, good_triangle, good_triangles, mesh_wrong};
+ghost use Rattle.std.specs.Prelude.{◌≡◌, ℕ, ◌+◌, ◌*◌, ◌≤◌, ◌<◌, Bool, true, List, length};
+ghost use Rattle.std.proofs.Common.{rules};
+ghost use Rattle.filling.specs.Vector.{vec, sub, cross, dot};
+ghost use Rattle.filling.specs.Lists.{vec3, triangle, mesh, up_to, vector_up_to, good_triangle, good_triangles, mesh_wrong};
+ghost use Rattle.model.specs.Entries.{all_good, list_wrong};
 
 use filling::{Triangle, Vec3};
 use float::number::abs;
 
+#[tactic(auto, unfolding(filling::specs::Vector::sub))]
 pub fn sub(a: Vec3, b: Vec3) -> Vec3
     ensures { result ≡ sub a b }
 {
@@ -18,6 +21,7 @@ pub fn sub(a: Vec3, b: Vec3) -> Vec3
     }
 }
 
+#[tactic(auto, unfolding(filling::specs::Vector::cross))]
 pub fn cross(a: Vec3, b: Vec3) -> Vec3
     ensures { result ≡ cross a b }
 {
@@ -28,15 +32,38 @@ pub fn cross(a: Vec3, b: Vec3) -> Vec3
     }
 }
 
+#[tactic(auto, unfolding(filling::specs::Vector::dot))]
 pub fn dot(a: Vec3, b: Vec3) -> f64
     ensures { result ≡ dot a b }
 {
     a.x * b.x + a.y * b.y + a.z * b.z
 }
 
+// The vector with one number on each axis.
+pub fn all_axes(v: f64) -> Vec3
+    ensures { result ≡ vec v v v }
+{
+    Vec3 { x: v, y: v, z: v }
+}
+
+// The vector whose coordinates f makes of those of a and b.
+pub fn each_axis<F: Fn(f64, f64) -> f64>(f: F, a: Vec3, b: Vec3) -> Vec3
+    requires { F.IsAlwaysCallable f }
+    ensures x { F.post f a.x b.x result.x }
+    ensures y { F.post f a.y b.y result.y }
+    ensures z { F.post f a.z b.z result.z }
+{
+    Vec3 {
+        x: f(a.x, b.x),
+        y: f(a.y, b.y),
+        z: f(a.z, b.z),
+    }
+}
+
 // ---- entries
 
 // The vector that starts at byte `at`.
+#[tactic(auto, unfolding(filling::specs::Lists::vec3, filling::specs::Lists::float))]
 pub fn vec3_at(s: &[u8], at: usize) -> Vec3
     requires { at + 24 ≤ length s.now }
     ensures { result ≡ vec3 s.now at }
@@ -48,6 +75,7 @@ pub fn vec3_at(s: &[u8], at: usize) -> Vec3
 }
 
 // The triangle that starts at byte `at`.
+#[tactic(auto, unfolding(filling::specs::Lists::triangle))]
 pub fn triangle_at(s: &[u8], at: usize) -> Triangle
     requires { at + 72 ≤ length s.now }
     ensures { result ≡ triangle s.now at }
@@ -61,65 +89,102 @@ pub fn triangle_at(s: &[u8], at: usize) -> Triangle
 // ---- bounds
 
 // A magnitude up to the limit, so no NaN and no infinity.
+#[tactic(auto, unfolding(filling::specs::Lists::up_to))]
 pub fn up_to(limit: f64, x: f64) -> bool
     ensures { result ≡ up_to limit x }
 {
     abs(x) <= limit
 }
 
+#[tactic(auto, unfolding(filling::specs::Lists::vector_up_to))]
 pub fn vector_up_to(limit: f64, p: Vec3) -> bool
     ensures { result ≡ vector_up_to limit p }
 {
-    if !up_to(limit, p.x) {
-        return false;
-    }
-    if !up_to(limit, p.y) {
-        return false;
-    }
-    up_to(limit, p.z)
+    up_to(limit, p.x) && up_to(limit, p.y) && up_to(limit, p.z)
 }
 
+#[tactic(auto, unfolding(filling::specs::Lists::good_triangle))]
 fn good_triangle(t: Triangle) -> bool
     ensures { result ≡ good_triangle t }
 {
-    if !vector_up_to(1e6, t.a) {
-        return false;
-    }
-    if !vector_up_to(1e6, t.b) {
-        return false;
-    }
-    vector_up_to(1e6, t.c)
+    vector_up_to(1e6, t.a) && vector_up_to(1e6, t.b) && vector_up_to(1e6, t.c)
 }
 
-// Whether the first n triangles are within bounds.
-fn good_triangles(s: &[u8], n: usize) -> bool
-    requires { 72 * n ≤ length s.now }
-    ensures { result ≡ good_triangles (triangles_at s.now 0 n) }
+// ---- lists of entries
+
+// What a list's bytes hold one behind the other: how many bytes an entry has and the longest list, and whether the entry at a byte is within bounds.
+pub trait Entries {
+    const SIZE: usize;
+
+    const MOST: usize;
+
+    ghost SIZE: { ℕ };
+
+    ghost MOST: { ℕ };
+
+    ghost good: { List ℕ → ℕ → Bool };
+
+    fn is_good(s: &[u8], at: usize) -> bool
+        requires { at + SIZE ≤ length s.now }
+        ensures { result ≡ good s.now at };
+
+    ghost some: { 0 < SIZE };
+}
+
+// Whether the first n entries are within bounds.
+#[tactic(auto, using(crate::proofs::AllGood::all_more), unfolding(crate::specs::Entries::all_good))]
+fn all_good<E: Entries>(s: &[u8], n: usize) -> bool
+    requires { E.SIZE * n ≤ length s.now }
+    ensures { result ≡ all_good E.SIZE (E.good s.now) 0 n }
 {
-    let mut i: usize = 0;
-    while i < n {
-        let t = triangle_at(s, 72 * i);
-        if !good_triangle(t) {
+    for i in 0..n {
+        if !E::is_good(s, E::SIZE * i) {
             return false;
         }
-        i += 1;
     }
     true
 }
 
+// Whether a list ends inside an entry, is too long or has an entry outside its bounds.
+#[tactic(auto, unfolding(crate::specs::Entries::list_wrong))]
+pub fn list_wrong<E: Entries>(s: &[u8]) -> bool
+    ensures { result ≡ list_wrong E.SIZE E.MOST (E.good s.now) s.now }
+{
+    s.len() % E::SIZE != 0 || E::MOST < s.len() || !all_good::<E>(s, s.len() / E::SIZE)
+}
+
+// The triangles of a mesh.
+struct Triangles;
+
+impl Entries for Triangles {
+    const SIZE: usize = 72;
+
+    const MOST: usize = 75497472;
+
+    ghost SIZE = { 72 };
+
+    ghost MOST = { 75497472 };
+
+    ghost good = { λ s at. good_triangle (triangle s at) };
+
+    fn is_good(s: &[u8], at: usize) -> bool {
+        good_triangle(triangle_at(s, at))
+    }
+
+    ghost some = { Prim.search rules };
+}
+
 // 17, of a mesh.
+#[tactic(auto, using(crate::proofs::AllGood::triangles_good), unfolding(filling::specs::Lists::mesh_wrong, filling::specs::Lists::mesh, crate::specs::Entries::list_wrong))]
 pub fn mesh_wrong(s: &[u8]) -> bool
     ensures { result ≡ mesh_wrong s.now }
 {
-    let n = s.len();
-    if n % 72 != 0 {
-        return true;
-    }
-    if n == 0 {
-        return true;
-    }
-    if 75497472 < n {
-        return true;
-    }
-    !good_triangles(s, n / 72)
+    s.len() == 0 || list_wrong::<Triangles>(s)
+}
+
+// A mesh within bounds, as bytes.
+#[derive(Clone, Copy)]
+pub struct Mesh<'a> {
+    pub bytes: &'a [u8],
+    ghost good: { good_triangles (mesh bytes.now) ≡ true },
 }

@@ -7,6 +7,7 @@ ghost use Rattle.rym1.proofs.Accepted.{Inside};
 
 use rym1::Point;
 
+// These take any bytes with a header, as the judge reads them before the file is accepted; of an accepted file its methods read (`PointFile`).
 // The header's grid.
 pub fn grid(file: &[u8]) -> u32
     requires { 64 ≤ length file.now }
@@ -68,7 +69,7 @@ pub fn cell_point(g: u32, c: u32, cauchy: u32, elliptic: u32) -> Point
     }
 }
 
-// The first eight bytes of a record, as a number: x lowest, two bytes each.
+// The first eight bytes of a record, as a number: x lowest, two bytes each. The fields are wider than what is written, so no conversion of the library is at hand.
 fn place_number(p: Point) -> u64
     ensures { le64 result ≡ le16 p.x ++ (le16 p.y ++ (le16 p.z ++ le16 p.pad)) }
 {

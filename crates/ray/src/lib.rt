@@ -13,6 +13,7 @@ use model::{cross, dot, sub};
 pub const EPS: f64 = 1e-12;
 
 // The test of Möller and Trumbore.
+#[tactic(auto, unfolding(filling::specs::Ray::ray, filling::specs::Ray::misses))]
 pub fn ray_triangle_t(origin: Vec3, t: Triangle) -> Crossing
     ensures { result ≡ ray origin t }
 {
@@ -31,18 +32,12 @@ pub fn ray_triangle_t(origin: Vec3, t: Triangle) -> Crossing
     let inverse = 1.0 / determinant;
     let s = sub(origin, t.a);
     let u = inverse * dot(s, p);
-    if !(0.0 <= u) {
-        return Crossing::Miss;
-    }
-    if !(u <= 1.0) {
+    if !(0.0 <= u && u <= 1.0) {
         return Crossing::Miss;
     }
     let q = cross(s, e1);
     let v = inverse * dot(direction, q);
-    if v < 0.0 {
-        return Crossing::Miss;
-    }
-    if u + v > 1.0 {
+    if v < 0.0 || u + v > 1.0 {
         return Crossing::Miss;
     }
     let distance = inverse * dot(e2, q);

@@ -12,8 +12,10 @@ use filling::Vec3;
 use float::number::abs;
 
 // Whether the determinant or u rules out the triangle at byte `at`.
+#[tactic(auto, unfolding(crate::specs::Quick::quick_miss, filling::specs::Lists::triangle, filling::specs::Lists::vec3, filling::specs::Lists::float))]
 fn quick_miss(s: &[u8], at: usize, origin: Vec3) -> bool
-    requires { (at + 72 ≤ length s.now) × (good_triangle (triangle s.now at) ≡ true) }
+    requires inside { at + 72 ≤ length s.now }
+    requires good { good_triangle (triangle s.now at) ≡ true }
     ensures { result ≡ quick_miss origin (triangle s.now at) }
 {
     let b = at + 24;
@@ -31,33 +33,26 @@ fn quick_miss(s: &[u8], at: usize, origin: Vec3) -> bool
     let sy = origin.y - ay;
     let sz = origin.z - az;
     let u = 1.0 / determinant * (sz * e2y - sy * e2z);
-    if !(0.0 <= u) {
-        return true;
-    }
-    !(u <= 1.0)
-}
-
-// Whether the triangle may be passed over; near: the point is within bounds.
-pub fn skips(s: &[u8], at: usize, origin: Vec3, near: bool) -> bool
-    requires good { (at + 72 ≤ length s.now) × (good_triangle (triangle s.now at) ≡ true) }
-    requires within { near ≡ true → vector_up_to point_limit origin ≡ true }
-    ensures { result ≡ true → ray origin (triangle s.now at) ≡ Miss }
-{
-    if !near {
-        return false;
-    }
-    quick_miss(s, at, origin)
+    !(0.0 <= u && u <= 1.0)
 }
 
 // Whether the triangle may be passed over at every point with these y and z; near: both are within bounds.
 pub fn skips_row(s: &[u8], at: usize, y: f64, z: f64, near: bool) -> bool
-    requires good { (at + 72 ≤ length s.now) × (good_triangle (triangle s.now at) ≡ true) }
+    requires inside { at + 72 ≤ length s.now }
+    requires good { good_triangle (triangle s.now at) ≡ true }
     requires within { near ≡ true → (up_to point_limit y ≡ true) × (up_to point_limit z ≡ true) }
     ensures { result ≡ true → (near ≡ true)
         × ((x : Float) → up_to point_limit x ≡ true → ray (vec x y z) (triangle s.now at) ≡ Miss) }
 {
-    if near {
-        return quick_miss(s, at, Vec3 { x: 0.0, y, z });
-    }
-    false
+    near && quick_miss(s, at, Vec3 { x: 0.0, y, z })
+}
+
+// Whether the triangle may be passed over; near: the point is within bounds.
+pub fn skips(s: &[u8], at: usize, origin: Vec3, near: bool) -> bool
+    requires inside { at + 72 ≤ length s.now }
+    requires good { good_triangle (triangle s.now at) ≡ true }
+    requires within { near ≡ true → vector_up_to point_limit origin ≡ true }
+    ensures { result ≡ true → ray origin (triangle s.now at) ≡ Miss }
+{
+    skips_row(s, at, origin.y, origin.z, near)
 }

@@ -1,4 +1,6 @@
 -- What one turn of each loop of the row's pass does, said of lists alone. Assumes nothing.
+use Rattle.filling.specs.declared.Crossing.{Crossing}
+use Rattle.filling.specs.declared.Crossing.TheVariants.{At, Miss}
 use Prim.Native.Nat.{ℕ, zero, suc, ◌+◌, ◌-◌, ◌*◌, ◌/◌, ◌≤◌, ◌<◌}
 use native.Mathlib.Numerals.{add-one}
 use native.Mathlib.Omega.{arith}
@@ -7,39 +9,25 @@ use mathlib.Core.Path.{◌≡◌, refl, sym, ◌∙◌, ap}
 use mathlib.Core.Logic.{⊎_elim}
 use mathlib.Core.List.{List, [], ◌∷◌, ◌++◌, append-nil, append_assoc}
 use mathlib.Core.Bool.{Bool, true, false, cond}
-use lib.ListN.{length, take, drop, get_or, set, length-set, length-drop}
-use lib.Seq.{get_or-take, take-suc-set, take-suc, take-length, drop-drop, drop-set-add, take-set-le, drop-set-lt, get_or-set_same, get_or-set_other}
+use lib.ListN.{length, take, drop, get_or, set, length-drop}
+use lib.Seq.{take-suc-set, take-suc, drop-drop, drop-set-add, take-set-le, drop-set-lt, get_or-set_same, get_or-set_other}
 use lib.Dec.{leb, eqb}
 use lib.Ieee.{Float, nan}
-use borrow.Author.Tests.{le-leb, lt-leb}
 use borrow.Rule.Slice.PartMut.{put_mid, drop_put}
+use Rattle.std.proofs.lemmas.Grind.{common_steps}
 use Rattle.float.specs.Axis.{axis_index}
 use Rattle.filling.specs.declared.Vec3.{Vec3}
 use Rattle.filling.specs.declared.Triangle.{Triangle}
 use Rattle.filling.specs.declared.Bounds.{Bounds}
 use Rattle.filling.specs.declared.Indices.{Indices}
-use Rattle.filling.specs.declared.Crossing.{Crossing}
-use Rattle.filling.specs.declared.Crossing.TheVariants.{At, Miss}
 use Rattle.filling.specs.Lists.{mesh, point_limit, vector_up_to, good_triangle, good_triangles}
 use Rattle.filling.specs.Ray.{ray}
 use Rattle.filling.specs.Inside.{scaled, indices, high_of, listed, odd_rest, is_inside, yes}
-use Rattle.filling.specs.Rows.{ahead, triangle_of, crossing_on, crossings_in, start_of, meets, row_list, row_entries, row_offsets, row_total, row_pair}
+use Rattle.filling.specs.Rows.{ahead, triangle_of, crossing_on, crossings_in, meets, row_list, row_pair}
 use Rattle.filling.proofs.Lists.{coordinates_up_to}
-use Rattle.filling.proofs.Listed.{split, count_le, start_suc, start_mono, starts_at, row_slice}
+use Rattle.filling.proofs.Listed.{split, count_le}
 use Rattle.filling.proofs.Rows.{same_answer, entry_good, pair_low}
-use Rattle.rows.specs.Listing.{Listed}
 use Rattle.row.specs.Row.{stored, region, crossing_up_to, crossing_at, point_of, crossings_at, Indexed, Near}
-
-module _ (l : List Float) (x m : ℕ) (c : Crossing) where
-  pub miss_stored : c ≡ Miss → (l ≡ stored l x c) × (m ≡ m + length (listed c))
-  miss_stored e = (rw e, rw e (omega arith))
-
-  pub at_stored : (t : Float) → c ≡ At t → (set l x t ≡ stored l x c) × (m + 1 ≡ m + length (listed c))
-  at_stored t e = (rw e, rw e)
-
-pub stored_length : (l : List Float) (x : ℕ) (c : Crossing) → length (stored l x c) ≡ length l
-stored_length l x (At t) = length-set l x t
-stored_length l x Miss = refl
 
 pub listed_le : (c : Crossing) → length (listed c) ≤ 1
 listed_le (At t) = omega arith
@@ -106,9 +94,9 @@ module _ (fl₀ fl : List Float) (k₀ k : List ℕ) (len n q : ℕ) (f : ℕ �
   unfolding region
   turn_done v e p h =
       ⊎_elim
-      (λ w. let a = done p w in let d = few p (omega arith) in let g = get_or-set_other k q p v 0 (λ x. omega arith) in
+      (λ (w : p < q). let a = done p w in let d = few p (omega arith) in let g = get_or-set_other k q p v 0 (λ x. omega arith) in
       (omega arith, other_region v p (λ x. omega arith) (omega arith) ∙ a.1))
-      (λ w. let x : p ≡ q = omega arith in
+      (λ (w : q ≤ p). let x : p ≡ q = omega arith in
       let g = get_or-set_same k q v 0 room in
       let a = listed_le (f q) in
       let d = rest q (omega arith) low in
@@ -131,28 +119,22 @@ module _ (fl₀ fl : List Float) (k₀ k : List ℕ) (len n q : ℕ) (f : ℕ �
 module _ (s : List ℕ) (b : Bounds) (y z : Float) (xs : List Float) (ix : List ℕ) (i : ℕ) where
   pub up_to_is : (top : ℕ) (t : Triangle) → t ≡ triangle_of s i → top ≡ (high_of b t).i → Indexed b xs ix → (q : ℕ) → q < length xs
       → crossing_up_to top t y z xs ix q ≡ crossing_at s b y z xs i q
-  unfolding crossing_up_to crossing_at crossing_on ahead indices point_of Indexed
-  up_to_is top t e f h q l = rw (h q l, f, e)
+  unfolding crossing_up_to crossing_at crossing_on ahead indices point_of
+  up_to_is top t e f h q l = rw (h.at_law q l, f, e)
 
 pub up_is : (top : ℕ) (t : Triangle) (y z : Float) (xs : List Float) (ix : List ℕ) (q : ℕ) (c : Crossing)
     → c ≡ cond (leb (get_or ix q 0) top) (ray (record { x = get_or xs q nan; y = y; z = z }) t) Miss → c ≡ crossing_up_to top t y z xs ix q
 unfolding crossing_up_to point_of
 up_is top t y z xs ix q c e = e
 
-pub test_yes : (i top : ℕ) (c d : Crossing) → i ≤ top → c ≡ cond (leb i top) c d
-test_yes i top c d l = rw (le-leb i top l)
-
-pub test_no : (i top : ℕ) (c d : Crossing) → top < i → d ≡ cond (leb i top) c d
-test_no i top c d l = rw (lt-leb i top l)
-
 -- where every point misses, nothing changes
 pub missed_at : (s : List ℕ) (b : Bounds) (y z : Float) (xs : List Float) (i q : ℕ) → ray (point_of y z xs q) (triangle_of s i) ≡ Miss → crossing_at s b y z xs i q ≡ Miss
 unfolding crossing_at crossing_on
-missed_at s b y z xs i q e = rw e (both (ahead s b (indices b (point_of y z xs q)) i))
+missed_at s b y z xs i q e = rw e (both (ahead s b (indices b (point_of y z xs q)) i) Miss)
   where
-    both : (t : Bool) → cond t Miss Miss ≡ Miss
-    both true = refl
-    both false = refl
+    both : (t : Bool) (c : Crossing) → cond t c c ≡ c
+    both true c = refl
+    both false c = refl
 
 -- ---- the list, one entry further
 in_more : (s : List ℕ) (b : Bounds) (at : Indices) (o : Vec3) (l : List ℕ) (i : ℕ) → crossings_in s b at o (l ++ i ∷ []) ≡ crossings_in s b at o l ++ listed (crossing_on s b at o i)
@@ -169,9 +151,6 @@ module _ (s : List ℕ) (b : Bounds) (y z : Float) (xs : List Float) (l : List �
       → crossings_at s b y z xs (take t l) q ++ listed (crossing_at s b y z xs (get_or l t 0) q) ≡ crossings_at s b y z xs (take (t + 1) l) q
   unfolding crossings_at crossing_at
   at_more t h = rw (add-one, take-suc l t 0 h) (sym (in_more s b _ _ (take t l) (get_or l t 0)))
-
-  pub at_all : (t : ℕ) → t ≡ length l → crossings_at s b y z xs (take t l) q ≡ crossings_at s b y z xs l q
-  at_all t e = ap (λ (m : List ℕ). crossings_at s b y z xs m q) (ap (λ x. take x l) e ∙ take-length l)
 
 pub region_none : (fl : List Float) (k : List ℕ) (len q : ℕ) → get_or k q 0 ≡ 0 → region fl k len q ≡ []
 unfolding region
@@ -196,11 +175,7 @@ module _ (fl last : List Float) (k : List ℕ) (len n q p : ℕ) (low : q < p) (
 
 pub answer_step : (out : List ℕ) (q v : ℕ) (f : ℕ → ℕ) → q < length out → v ≡ f q → ((p : ℕ) → p < q → get_or out p 0 ≡ f p)
     → (p : ℕ) → p < q + 1 → get_or (set out q v) p 0 ≡ f p
-answer_step out q v f l e inv p h =
-    ⊎_elim
-    (λ w. get_or-set_other out q p v 0 (λ x. omega arith) ∙ inv p w)
-    (λ w. let x : p ≡ q = omega arith in rw x (get_or-set_same out q v 0 l ∙ e))
-    (split p q)
+answer_step out q v f l e inv p h = let y = inv p in grind (arith, common_steps)
 
 pub region_lent : (fl : List Float) (k : List ℕ) (len q : ℕ) → take (q * len + get_or k q 0 - q * len) (drop (q * len) fl) ≡ region fl k len q
 unfolding region
@@ -215,26 +190,6 @@ row_answer s b y z xs q = sym (same_answer s b (get_or xs q nan) y z)
 -- ---- a row's list between two starts
 pub pair_below : (b : Bounds) (y z : Float) (p : ℕ) → p ≡ row_pair b y z → p < 9216
 pair_below b y z p e = rw e (pair_low b y z)
-
-module _ (s : List ℕ) (b : Bounds) (o e : List ℕ) (p : ℕ) (low : p < 9216) (h : Listed s b (length s / 72) o e) where
-  start_is : (q : ℕ) → q < 9217 → get_or o q 0 ≡ start_of (meets s b) (length s / 72) q
-  unfolding row_offsets
-  start_is q l = sym (get_or-take 9217 o q 0 l) ∙ ap (λ (x : List ℕ). get_or x q 0) h.starts ∙ starts_at (meets s b) (length s / 72) 9217 q l
-
-  next_is : get_or o (p + 1) 0 ≡ start_of (meets s b) (length s / 72) (suc p)
-  next_is = start_is (p + 1) (omega arith) ∙ ap (start_of (meets s b) (length s / 72)) (add-one p)
-
-  pub starts_ordered : get_or o p 0 ≤ get_or o (p + 1) 0
-  starts_ordered = omega (arith, start_is p (omega arith), next_is, start_suc (meets s b) (length s / 72) p)
-
-  pub starts_end : get_or o (p + 1) 0 ≤ length e
-  unfolding row_total
-  starts_end = omega (arith, next_is, start_mono (meets s b) (length s / 72) (suc p) 9216 low, h.words)
-
-  pub list_between : take (get_or o (p + 1) 0 - get_or o p 0) (drop (get_or o p 0) e) ≡ row_list s b (length s / 72) p
-  unfolding row_total row_entries row_list
-  list_between =
-      rw (start_is p (omega arith), next_is) (row_slice (meets s b) (length s / 72) 9216 p e low h.words h.entries)
 
 module _ (s : List ℕ) (b : Bounds) (p : ℕ) (l : List ℕ) (is : l ≡ row_list s b (length s / 72) p) where
   pub listed_good : good_triangles (mesh s) ≡ true → (t : ℕ) → t < length l → (72 * get_or l t 0 + 72 ≤ length s) × (good_triangle (triangle_of s (get_or l t 0)) ≡ true)
@@ -252,9 +207,7 @@ module _ (o : Vec3) where
       record { on_y_law = near.1; on_z_law = near.2; on_x_law = λ q l. rw (alone q l) near.0 }
 
   pub one_indexed : (b : Bounds) (i : ℕ) → i ≡ axis_index (scaled b.min.x b.max.x o.x) → Indexed b (o.x ∷ []) (i ∷ [])
-  unfolding Indexed
-  one_indexed b i e zero h = e
-  one_indexed b i e (suc q) h = absurd (omega arith)
+  one_indexed b i e = record { at_law = λ q l. let z : q ≡ 0 = omega arith in rw z e }
 
   pub one_point : point_of o.y o.z (o.x ∷ []) 0 ≡ o
   unfolding point_of

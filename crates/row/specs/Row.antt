@@ -1,12 +1,12 @@
 -- A row of points: one entry of its list at each of them, and the regions of the lent floats. Definitions only.
+use Rattle.filling.specs.declared.Crossing.{Crossing}
+use Rattle.filling.specs.declared.Crossing.TheVariants.{At, Miss}
 use Rattle.std.specs.Prelude.{ℕ, ◌*◌, ◌<◌, ◌≡◌, true, cond, List, set, take, drop, get_or, length, leb, Float}
 use Rattle.std.specs.Float.{nan}
 use Rattle.float.specs.Axis.{axis_index}
 use Rattle.filling.specs.declared.Vec3.{Vec3}
 use Rattle.filling.specs.declared.Triangle.{Triangle}
 use Rattle.filling.specs.declared.Bounds.{Bounds}
-use Rattle.filling.specs.declared.Crossing.{Crossing}
-use Rattle.filling.specs.declared.Crossing.TheVariants.{At, Miss}
 use Rattle.filling.specs.Vector.{vec}
 use Rattle.filling.specs.Lists.{point_limit, up_to}
 use Rattle.filling.specs.Ray.{ray}
@@ -38,8 +38,8 @@ unfoldable pub crossings_at : List ℕ → Bounds → Float → Float → List F
 crossings_at s b y z xs l q = crossings_in s b (indices b (point_of y z xs q)) (point_of y z xs q) l
 
 -- the x indices of the points
-unfoldable pub Indexed : Bounds → List Float → List ℕ → Type 0
-Indexed b xs ix = (q : ℕ) → q < length xs → get_or ix q 0 ≡ axis_index (scaled b.min.x b.max.x (get_or xs q nan))
+pub record Indexed (b : Bounds) (xs : List Float) (ix : List ℕ) : Type 0 where
+  pub at_law : (q : ℕ) → q < length xs → get_or ix q 0 ≡ axis_index (scaled b.min.x b.max.x (get_or xs q nan))
 
 -- y, z and all x are within the bounds of a point
 pub record Near (y z : Float) (xs : List Float) : Type 0 where

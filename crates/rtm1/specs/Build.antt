@@ -1,11 +1,12 @@
 -- The tree file RTM1, and what build answers and leaves in its output. Definitions only.
+use Rattle.std.specs.Prelude.{Err, Ok, Result}
+use Rattle.rym1.specs.declared.Cause.{Cause}
+use Rattle.rtm1.specs.declared.Counts.{Counts}
 use Rattle.std.specs.Prelude.{ℕ, ◌+◌, ◌*◌, Bool, cond, List, [], ◌∷◌, ◌++◌, length, eqb, ltb}
 use Rattle.rym1.specs.Bytes.{words_bytes, splice}
 use Rattle.rym1.specs.Causes.{number, when, first, Outcome, outcome, refuse}
 use Rattle.rym1.specs.File.{grid, count, density, volume, scale, box_min, box_max, cube, groups, file_cause, work_cause, repeat_cause}
 use Rattle.rym1.specs.Cells.{look}
-use Rattle.rtm1.specs.declared.Built.{Built}
-use Rattle.rtm1.specs.declared.Built.TheVariants.{Refused, Done}
 use Rattle.rtm1.specs.Tree.{Tree, tree, node_count, order}
 use Rattle.rtm1.specs.Node.{frame_of, nodes_floats, some_large, nodes_bytes}
 
@@ -80,18 +81,18 @@ build f words out =
 
 -- ---- what the code answers
 
-unfoldable pub answer_of : Built → ℕ
-answer_of (Refused c) = number c
-answer_of (Done c) = c.length
+unfoldable pub answer_of : Result Counts Cause → ℕ
+answer_of (Err c) = number c
+answer_of (Ok c) = c.length
 
-unfoldable pub nodes_of : Built → ℕ
-nodes_of (Refused c) = 0
-nodes_of (Done c) = c.nodes
+unfoldable pub nodes_of : Result Counts Cause → ℕ
+nodes_of (Err c) = 0
+nodes_of (Ok c) = c.nodes
 
-unfoldable pub order_of : Built → ℕ
-order_of (Refused c) = 0
-order_of (Done c) = c.order
+unfoldable pub order_of : Result Counts Cause → ℕ
+order_of (Err c) = 0
+order_of (Ok c) = c.order
 
 -- an answer, and the output that is left with it, as an outcome
-unfoldable pub told : Built → List ℕ → Outcome Output
+unfoldable pub told : Result Counts Cause → List ℕ → Outcome Output
 told r out = outcome (answer_of r) (output (nodes_of r) (order_of r) out)

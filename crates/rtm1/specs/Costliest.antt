@@ -1,4 +1,6 @@
 -- The most costly model of a grid: a point file with every cell, the counts of its tree, and the two calls. Definitions only.
+use Rattle.std.specs.Prelude.{Err, Ok, Result}
+use Rattle.rym1.specs.declared.Cause.{Cause}
 use Rattle.std.specs.Prelude.{ℕ, List, [], ◌∷◌, ◌++◌, length, ltb}
 use Rattle.std.proofs.Math.Option.{some}
 use Rattle.rym1.specs.Bytes.{words_bytes, splice}
@@ -6,8 +8,6 @@ use Rattle.rym1.specs.Causes.{number, when, first, Outcome, outcome, refuse}
 use Rattle.rym1.specs.File.{points_bytes, size, cube, grid_cause}
 use Rattle.rym1.specs.Cells.{Map, records}
 use Rattle.rtm1.specs.declared.Cost.{Cost}
-use Rattle.rtm1.specs.declared.Costly.{Costly}
-use Rattle.rtm1.specs.declared.Costly.TheVariants.{Refused, Done}
 use Rattle.rtm1.specs.Tree.{node_count}
 use Rattle.rtm1.specs.Build.{tree_length, file_tree}
 
@@ -77,6 +77,6 @@ write_costliest g out = refuse (write_cause g out) out (outcome (size (cube g)) 
 
 -- ---- what the code answers
 
-unfoldable pub told_cost : Costly → Outcome Cost
-told_cost (Refused c) = outcome (number c) (cost 0 0)
-told_cost (Done k) = outcome 0 k
+unfoldable pub told_cost : Result Cost Cause → Outcome Cost
+told_cost (Err c) = outcome (number c) (cost 0 0)
+told_cost (Ok k) = outcome 0 k

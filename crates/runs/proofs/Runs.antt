@@ -1,12 +1,13 @@
 -- In a file in working form a row's points are records on end: from the total at its first cell on, as many as it has marks. Assumes nothing.
+use Rattle.std.specs.Prelude.{Option as Found, None}
 use Prim.Native.Nat.{ℕ, zero, suc, ◌+◌, ◌-◌, ◌*◌, ◌%◌, ◌≤◌, ◌<◌}
-use mathlib.Core.Path.{◌≡◌, refl, sym, ap, ◌∙◌}
+use mathlib.Core.Path.{◌≡◌, refl, sym, ap, ◌∙◌, subst}
 use mathlib.Core.Bool.{Bool, true, false, cond}
 use mathlib.Core.Option.{Option, none, some}
-use mathlib.Core.List.{List, [], ◌∷◌, ◌++◌, append-nil}
-use native.Mathlib.Nat.{zero-add, sub-zero, one-mul, add-mul, mul-le-mul_right}
+use mathlib.Core.List.{List, [], ◌∷◌, ◌++◌, append-nil, append_assoc}
+use native.Mathlib.Nat.{zero-add, add-zero, suc-add, add-suc, sub-zero, one-mul, add-mul, mul-le-mul_right}
 use native.Mathlib.Omega.{arith}
-use lib.ListN.{length}
+use lib.ListN.{length, get_or}
 use lib.Arith.{digits_lt, digits_mod}
 use lib.Dec.{eqb}
 use borrow.Author.Tests.{eqb-true, eq-eqb}
@@ -16,15 +17,12 @@ use Rattle.rym1.specs.Cells.{Masses, Slot, vacant, held, look, masses_of, mass_m
 use Rattle.rym1.specs.Open.{occupied, occupied_of}
 use Rattle.rym1.proofs.Opened.{working_count}
 use Rattle.rym1.proofs.Accepted.{Inside, accepted, accepted_points, inside_at}
-use Rattle.rym1.proofs.Cells.{cell_low, slot_at, HeldAt, held_at}
+use Rattle.rym1.proofs.Cells.{cell_low, cube_few, slot_at, HeldAt, held_at}
 use Rattle.lookup.specs.Lookup.{slot_word}
 use Rattle.marks.specs.Marks.{one, mark, tally, Entered}
 use Rattle.marks.proofs.Digits.{tally_more}
-use Rattle.marks.proofs.Index.{look_marked, tally_records}
-use Rattle.search.specs.declared.Search.{Search}
-use Rattle.search.specs.declared.Search.TheVariants.{Nothing}
+use Rattle.marks.proofs.Index.{look_marked, tally_few, tally_records}
 use Rattle.search.specs.Next.{bit_at, next}
-use Rattle.search.specs.Answers.{found}
 use Rattle.search.proofs.Least.{Unmarked, next_none, unmarked_tally}
 use Rattle.search.proofs.Reading.{file_next}
 use Rattle.rtm1.specs.Visit.{Placed, here, run, point_in}
@@ -32,11 +30,18 @@ use Rattle.rtm1.specs.Build.{scratch_words}
 use Rattle.rtm1.proofs.Visit.{run_first, run_none}
 use Rattle.runs.specs.declared.Form.{Form}
 use Rattle.runs.specs.declared.Form.TheVariants.{Marks, Words}
-use Rattle.runs.specs.Runs.{placed_at, placed, form_of, room_of, Ready, Ran}
+use Rattle.runs.specs.Runs.{placed_at, placed, form_of, room_of, Held, Ready, Ran}
 
 -- a grid has at most 256 cells along an axis
 pub grid_few : {form : Form} {words f : List ℕ} {g : ℕ} → Ready form words f g → g ≤ 256
 grid_few {form} {words} {f} {g} h = rw h.gridded (accepted f h.accepted).grid_few
+
+-- what the words hold, by their form
+pub marks_held : {form : Form} {words f : List ℕ} {g : ℕ} → Ready form words f g → form ≡ Marks → Held Marks words f
+marks_held {form} {words} {f} {g} h e = subst (λ (form : Form). Held form words f) e h.held
+
+pub words_held : {form : Form} {words f : List ℕ} {g : ℕ} → Ready form words f g → form ≡ Words → Held Words words f
+words_held {form} {words} {f} {g} h e = subst (λ (form : Form). Held form words f) e h.held
 
 pub length_placed : (f : List ℕ) (z y i k : ℕ) → length (placed f z y i k) ≡ k
 unfolding placed
@@ -150,6 +155,7 @@ module _ (f : List ℕ) (ok : file_cause f ≡ 0) (works : work_cause f ≡ 0) (
         on = xl;
         in_row = omega arith;
         in_file = omega (arith, sum, start, all, all_counted (c + (x1 - x)) (omega (arith, ec, few g x (x1 - x) y z yl zl (omega arith))));
+        fits = omega (arith, sum, start, all, tally_few f 0 (c + (x1 - x)), ec, few g x (x1 - x) y z yl zl (omega arith), cube_few g (rw eg (accepted f ok).grid_few));
       }
 
   -- where the search finds none
@@ -162,12 +168,12 @@ module _ (f : List ℕ) (ok : file_cause f ≡ 0) (works : work_cause f ≡ 0) (
         on = xl;
         in_row = omega arith;
         in_file = omega arith;
+        fits = omega arith;
       }
 
 -- no cell of the file from `first` up to `end` is occupied
-pub miss_is : (words f : List ℕ) → Entered words f → (first end : ℕ) → end ≤ cube (grid f) → (r : Search) (n : ℕ) → found r ≡ next (bit_at words) first end → r ≡ Nothing n → Unmarked (mark f) first end
-unfolding found
-miss_is words f d first end low r n e q = (next_none (mark f) first end).0 (sym (file_next words f d first end low) ∙ sym e ∙ ap found q)
+pub miss_is : (words f : List ℕ) → Entered words f → (first end : ℕ) → end ≤ cube (grid f) → (r : Found ℕ) → r ≡ next (bit_at words) first end → r ≡ None → Unmarked (mark f) first end
+miss_is words f d first end low r e q = (next_none (mark f) first end).0 (sym (file_next words f d first end low) ∙ sym e ∙ q)
 
 -- the row's cells lie in the grid
 pub row_fits : (f : List ℕ) (g : ℕ) (x x1 y z c : ℕ) → g ≡ grid f → c ≡ cell g x y z → x < x1 → x1 ≤ g → y < g → z < g → c + (x1 - x) ≤ cube (grid f)
@@ -184,15 +190,16 @@ module _ (f : List ℕ) (ok : file_cause f ≡ 0) (g : ℕ) (eg : g ≡ grid f) 
         on = omega arith;
         in_row = omega arith;
         in_file = omega arith;
+        fits = omega arith;
       }
     where
       go : (s : Slot) → slot_word s ≡ 0 → here x y z s ≡ []
       go vacant d = refl
       go (held i m) d = absurd (let one : suc i ≡ 0 = unfold slot_word in d in omega arith)
 
-  pub worded_one : (w ≡ 0 → ⊥) → Ran f g z y x x1 (record { index = w - 1; count = 1; next = x + 1 })
+  pub worded_one : (w ≡ 0 → ⊥) → w < 4294967296 → Ran f g z y x x1 (record { index = w - 1; count = 1; next = x + 1 })
   unfolding placed
-  worded_one some_word = go (look f (cell g x y z)) refl
+  worded_one some_word fit = go (look f (cell g x y z)) refl
     where
       go : (s : Slot) → look f (cell g x y z) ≡ s → Ran f g z y x x1 (record { index = w - 1; count = 1; next = x + 1 })
       go vacant q = absurd (some_word (ew ∙ (ap slot_word q ∙ (unfold slot_word in refl))))
@@ -207,7 +214,71 @@ module _ (f : List ℕ) (ok : file_cause f ≡ 0) (g : ℕ) (eg : g ≡ grid f) 
             on = omega arith;
             in_row = omega arith;
             in_file = omega (arith, index, (at_index f ok x y z i m low at).before);
+            fits = omega (arith, fit, some_word);
           }
+
+-- records on end, in two parts
+placed_split : (f : List ℕ) (z y i j k : ℕ) → placed f z y i (j + k) ≡ placed f z y i j ++ placed f z y (i + j) k
+unfolding placed
+placed_split f z y i zero k = rw (zero-add k, add-zero i) refl
+placed_split f z y i (suc j) k = rw (suc-add j k, add-suc i j, placed_split f z y (suc i) j k, suc-add i j) refl
+
+module _ (f : List ℕ) (g z y x x1 : ℕ) where
+  -- up to `at` a row's points are k records on end, from i on
+  pub record Gathered (i k at : ℕ) : Type 0 where
+    pub points : run (point_in (look f) g z y) x (x1 - x) ≡ placed f z y i k ++ run (point_in (look f) g z y) at (x1 - at)
+    pub passed : x + k ≤ at
+    pub in_file : i + k ≤ count f
+    pub fits : i + k < 4294967296
+
+  pub gather_start : Gathered 0 0 x
+  unfolding placed
+  gather_start = record { points = refl; passed = omega arith; in_file = omega arith; fits = omega arith }
+
+  module _ (i k at : ℕ) (d : Gathered i k at) where
+    -- an empty cell
+    pub gather_none : Ran f g z y at x1 (record { index = 0; count = 0; next = at + 1 }) → Gathered i k (at + 1)
+    unfolding placed
+    gather_none r =
+        record { points = d.points ∙ ap (λ (l : List Placed). placed f z y i k ++ l) r.points; passed = omega (arith, d.passed); in_file = d.in_file; fits = d.fits }
+
+    -- the next record
+    pub gather_next : Ran f g z y at x1 (record { index = i + k; count = 1; next = at + 1 }) → Gathered i (k + 1) (at + 1)
+    gather_next r =
+        record {
+          points = d.points ∙ ap (λ (l : List Placed). placed f z y i k ++ l) r.points ∙ sym (rw (placed_split f z y i k 1, append_assoc) refl);
+          passed = omega (arith, d.passed);
+          in_file = omega (arith, r.in_file);
+          fits = omega (arith, r.fits);
+        }
+
+    -- the first
+    pub gather_first : k ≡ 0 → (j : ℕ) → Ran f g z y at x1 (record { index = j; count = 1; next = at + 1 }) → Gathered j 1 (at + 1)
+    unfolding placed
+    gather_first e j r =
+        let none : placed f z y i k ≡ [] = rw e refl in
+        record {
+          points = d.points ∙ rw none r.points;
+          passed = omega (arith, d.passed);
+          in_file = r.in_file;
+          fits = r.fits;
+        }
+
+    -- up to an end
+    pub gathered_up_to : (e : ℕ) → at ≡ e → x < e → e ≤ x1 → Ran f g z y x x1 (record { index = i; count = k; next = e })
+    gathered_up_to e same on low = record { points = rw same at d.points; on = on; in_row = low; in_file = d.in_file; fits = d.fits }
+
+-- the row's cells by its first one
+pub row_cell : (g x y z c : ℕ) → c ≡ cell g 0 y z → c + x ≡ cell g x y z
+unfolding cell
+row_cell g x y z c e = omega (arith, e)
+
+-- the word of a cell of the row
+pub row_word : {form : Form} {words f : List ℕ} {g : ℕ} → Ready form words f g → form ≡ Words → (x x1 y z c : ℕ) → c ≡ cell g 0 y z → x < x1 → x1 ≤ g → y < g → z < g
+    → get_or words (c + x) 0 ≡ slot_word (look f (cell g x y z))
+row_word {form} {words} {f} {g} h e x x1 y z c ec xl xh yl zl =
+    let there = row_cell g x y z c ec in
+    (words_held h e).each (c + x) (omega (arith, row_fits f g x x1 y z (c + x) h.gridded there xl xh yl zl, xl)) ∙ ap (λ (k : ℕ). slot_word (look f k)) there
 
 -- ---- forms
 

@@ -55,3 +55,4 @@ pub record Ran (f : List ℕ) (g z y x x1 : ℕ) (r : Run) : Type 0 where
   pub on : x < r.next
   pub in_row : r.next ≤ x1
   pub in_file : r.index + r.count ≤ count f
+  pub fits : r.index + r.count < 4294967296

@@ -1,7 +1,7 @@
 -- Searches, computed: cells 3, 40 and 64 are occupied. Assumes nothing.
 use Prim.Native.Nat.{ℕ}
 use mathlib.Core.Path.{◌≡◌, refl}
-use mathlib.Core.Option.{Option, none, some}
+use Rattle.std.specs.Prelude.{Option, Some, None}
 use mathlib.Core.List.{List, [], ◌∷◌}
 use Rattle.rym1.specs.File.{groups}
 use Rattle.search.specs.Next.{bit_at, least, next, touched, stop_of, words_read}
@@ -16,7 +16,7 @@ at first end = next (bit_at words) first end
 abbrev count : ℕ → ℕ → ℕ
 count first end = words_read (bit_at words) first end
 
-found : (at 0 96 ≡ some 3) × (at 4 96 ≡ some 40) × (at 40 41 ≡ some 40) × (at 41 96 ≡ some 64) × (at 4 40 ≡ none) × (at 41 64 ≡ none) × (at 64 64 ≡ none) × (at 70 64 ≡ none) × (at 4 32 ≡ none) × (at 31 33 ≡ none)
+found : (at 0 96 ≡ Some 3) × (at 4 96 ≡ Some 40) × (at 40 41 ≡ Some 40) × (at 41 96 ≡ Some 64) × (at 4 40 ≡ None) × (at 41 64 ≡ None) × (at 64 64 ≡ None) × (at 70 64 ≡ None) × (at 4 32 ≡ None) × (at 31 33 ≡ None)
 unfolding bit_at next least
 found = (refl, refl, refl, refl, refl, refl, refl, refl, refl, refl)
 

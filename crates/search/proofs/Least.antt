@@ -4,7 +4,7 @@ use Prim.Native.Nat.{ℕ, zero, suc, ◌+◌, ◌-◌, ◌*◌, ◌/◌, ◌≤�
 use mathlib.Core.Path.{◌≡◌, refl, sym, ap, ◌∙◌}
 use mathlib.Core.Logic.{◌↔◌}
 use mathlib.Core.Bool.{Bool, true, false, cond}
-use mathlib.Core.Option.{Option, none, some, some-injective, none-ne-some, some-ne-none}
+use Rattle.std.specs.Prelude.{Option, Some, None}
 use native.Mathlib.Decide.{ℕ_discrete, dec_lt}
 use native.Mathlib.Omega.{arith}
 use lib.Dec.{eqb}
@@ -26,41 +26,41 @@ pub record LeastMarked (p : ℕ → ℕ) (first end c : ℕ) : Type 0 where
 
 module _ (p : ℕ → ℕ) where
   -- of k cells from c on
-  least_none : (c k : ℕ) → Unmarked p c (c + k) → least p c k ≡ none
+  least_none : (c k : ℕ) → Unmarked p c (c + k) → least p c k ≡ None
   unfolding least
   least_none c zero all = refl
   least_none c (suc k) all =
       rw (eq-eqb (p c) 0 (all c (omega arith) (omega arith)), least_none (suc c) k (λ i l h. all i (omega arith) (omega arith)))
 
-  none_least : (c k : ℕ) → least p c k ≡ none → Unmarked p c (c + k)
+  none_least : (c k : ℕ) → least p c k ≡ None → Unmarked p c (c + k)
   unfolding least
   none_least c zero e i l h = absurd (omega arith)
   none_least c (suc k) e i l h = go (eqb (p c) 0) refl e (λ d. none_least (suc c) k d i)
     where
-      go : (t : Bool) → eqb (p c) 0 ≡ t → cond t (least p (suc c) k) (some c) ≡ none → (least p (suc c) k ≡ none → suc c ≤ i → i < suc c + k → p i ≡ 0) → p i ≡ 0
+      go : (t : Bool) → eqb (p c) 0 ≡ t → cond t (least p (suc c) k) (Some c) ≡ None → (least p (suc c) k ≡ None → suc c ≤ i → i < suc c + k → p i ≡ 0) → p i ≡ 0
       go true q d ih = elim (ℕ_discrete c i) [
         | yes same ↦ ap p (sym same) ∙ eqb-true (p c) 0 q
         | no other ↦ ih d (omega arith) (omega arith)
       ]
-      go false q d ih = absurd (some-ne-none c d)
+      go false q d ih = cc
 
-  least_some : (c k r : ℕ) → LeastMarked p c (c + k) r → least p c k ≡ some r
+  least_some : (c k r : ℕ) → LeastMarked p c (c + k) r → least p c k ≡ Some r
   unfolding least
   least_some c zero r m = absurd (omega (arith, m.from, m.before))
   least_some c (suc k) r m = elim (ℕ_discrete c r) [
-    | yes same ↦ rw (ne_eqb (p c) 0 (λ z. m.marked (ap p (sym same) ∙ z))) (ap some same)
+    | yes same ↦ rw (ne_eqb (p c) 0 (λ z. m.marked (ap p (sym same) ∙ z))) (ap Some same)
     | no other ↦
         let up : suc c ≤ r = omega (arith, m.from) in
         let rest = least_some (suc c) k r (record { marked = m.marked; from = up; before = omega (arith, m.before); lower = λ i l h. m.lower i (omega arith) h }) in
         rw (eq-eqb (p c) 0 (m.lower c (omega arith) (omega arith)), rest)
   ]
 
-  some_least : (c k r : ℕ) → least p c k ≡ some r → LeastMarked p c (c + k) r
+  some_least : (c k r : ℕ) → least p c k ≡ Some r → LeastMarked p c (c + k) r
   unfolding least
-  some_least c zero r e = absurd (none-ne-some r e)
+  some_least c zero r e = cc
   some_least c (suc k) r e = go (eqb (p c) 0) refl e (λ d. some_least (suc c) k r d)
     where
-      go : (t : Bool) → eqb (p c) 0 ≡ t → cond t (least p (suc c) k) (some c) ≡ some r → (least p (suc c) k ≡ some r → LeastMarked p (suc c) (suc c + k) r) → LeastMarked p c (c + suc k) r
+      go : (t : Bool) → eqb (p c) 0 ≡ t → cond t (least p (suc c) k) (Some c) ≡ Some r → (least p (suc c) k ≡ Some r → LeastMarked p (suc c) (suc c + k) r) → LeastMarked p c (c + suc k) r
       go true q d ih =
           let m = ih d in
           record { marked = m.marked; from = omega (arith, m.from); before = omega (arith, m.before); lower = λ i l h. lower m i l h }
@@ -71,24 +71,24 @@ module _ (p : ℕ → ℕ) where
             | no other ↦ m.lower i (omega arith) h
           ]
       go false q d ih =
-          let same : c ≡ r = some-injective c r d in
+          let same : c ≡ r = cc in
           record { marked = λ z. eqb-false (p c) 0 q (ap p same ∙ z); from = omega arith; before = omega arith; lower = λ i l h. absurd (omega arith) }
 
   -- ---- the theorem
 
-  pub next_some : (first end c : ℕ) → (next p first end ≡ some c) ↔ LeastMarked p first end c
+  pub next_some : (first end c : ℕ) → (next p first end ≡ Some c) ↔ LeastMarked p first end c
   unfolding next
   next_some first end c = (to, from)
     where
-      to : least p first (end - first) ≡ some c → LeastMarked p first end c
+      to : least p first (end - first) ≡ Some c → LeastMarked p first end c
       to e =
           let m = some_least first (end - first) c e in
           record { marked = m.marked; from = m.from; before = omega (arith, m.from, m.before); lower = m.lower }
 
-      from : LeastMarked p first end c → least p first (end - first) ≡ some c
+      from : LeastMarked p first end c → least p first (end - first) ≡ Some c
       from m = least_some first (end - first) c (record { marked = m.marked; from = m.from; before = omega (arith, m.from, m.before); lower = m.lower })
 
-  pub next_none : (first end : ℕ) → (next p first end ≡ none) ↔ Unmarked p first end
+  pub next_none : (first end : ℕ) → (next p first end ≡ None) ↔ Unmarked p first end
   unfolding next
   next_none first end = (
     λ e i l h. none_least first (end - first) e i l (omega arith),
@@ -114,8 +114,8 @@ pub next_same : (p q : ℕ → ℕ) (first end : ℕ) → ((c : ℕ) → c < end
 next_same p q first end same = go (next q first end) refl
   where
     go : (o : Option ℕ) → next q first end ≡ o → next p first end ≡ next q first end
-    go none e = (next_none p first end).1 (λ i l h. same i h ∙ (next_none q first end).0 e i l h) ∙ sym e
-    go (some c) e =
+    go None e = (next_none p first end).1 (λ i l h. same i h ∙ (next_none q first end).0 e i l h) ∙ sym e
+    go (Some c) e =
         let m = (next_some q first end c).0 e in
         (next_some p first end c).1 (record {
           marked = λ z. m.marked (sym (same c m.before) ∙ z);

@@ -2,7 +2,7 @@
 use Prim.Native.Nat.{ℕ, zero, suc, ◌+◌, ◌-◌, ◌*◌, ◌/◌, ◌%◌, ◌^◌, ◌≤◌, ◌<◌}
 use mathlib.Core.Path.{◌≡◌, refl, sym, ap, ◌∙◌}
 use mathlib.Core.Logic.{◌⊎◌, inl, inr, ⊎_elim}
-use mathlib.Core.Option.{none, some}
+use Rattle.std.specs.Prelude.{Some, None}
 use mathlib.Core.List.{List}
 use native.Mathlib.Nat.{pow-suc, zero-add, div-one, lt_of_le_of_lt, lt_of_lt_of_le}
 use native.Mathlib.Omega.{arith}
@@ -156,17 +156,17 @@ module _ (p : ℕ → ℕ) (first end : ℕ) where
 
     module _ (below : ℕ) (place : below ≡ c % 32) (low : c < end) where
       -- a mark is found before the end
-      pub search_hit : (r : ℕ) → LeastMarked p c (c + (32 - below)) r → r < end → (some r ≡ next p first end) × (n + 1 ≡ words_read p first end)
+      pub search_hit : (r : ℕ) → LeastMarked p c (c + (32 - below)) r → r < end → (Some r ≡ next p first end) × (n + 1 ≡ words_read p first end)
       search_hit r m h = (sym is, unfold words_read in rw is (unfold stop_of in read_more r m.from (omega (arith, place, m.from, m.before))))
         where
-          is : next p first end ≡ some r
+          is : next p first end ≡ Some r
           is = (next_some p first end r).1 (record { marked = m.marked; from = omega (arith, s.from, m.from); before = h; lower = both r m.lower })
 
       -- the word's first mark stands at the end or behind it
-      pub search_out : (r : ℕ) → LeastMarked p c (c + (32 - below)) r → end ≤ r → (none ≡ next p first end) × (n + 1 ≡ words_read p first end)
+      pub search_out : (r : ℕ) → LeastMarked p c (c + (32 - below)) r → end ≤ r → (None ≡ next p first end) × (n + 1 ≡ words_read p first end)
       search_out r m h = (sym is, unfold words_read in rw is (unfold stop_of in rw last at (read_more (end - 1) (omega arith) (omega (arith, place, m.before)))))
         where
-          is : next p first end ≡ none
+          is : next p first end ≡ None
           is = (next_none p first end).1 (both end (λ i l b. m.lower i l (omega arith)))
 
           last : suc (end - 1) ≡ end
@@ -184,10 +184,10 @@ module _ (p : ℕ → ℕ) (first end : ℕ) where
             aligned = inr (omega (arith, place), omega arith, omega (arith, s.from), omega (arith, place, s.from));
           }
 
-    pub search_end : end ≤ c → (none ≡ next p first end) × (n ≡ words_read p first end)
+    pub search_end : end ≤ c → (None ≡ next p first end) × (n ≡ words_read p first end)
     search_end h = (sym is, unfold words_read in rw is (unfold stop_of in counts))
       where
-        is : next p first end ≡ none
+        is : next p first end ≡ None
         is = (next_none p first end).1 (λ i l b. s.none_yet i l (omega arith))
 
         counts : n ≡ touched first end

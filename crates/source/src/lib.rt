@@ -3,32 +3,30 @@
 
 ghost use Rattle.source.specs.Source.{Sourced};
 
-use points::judge::{is_refused, parse_mascon_bytes};
-use points::records::{count, grid};
+use points::file::PointFile;
+use points::judge::parse_mascon_bytes;
 use runs::{Form, fill, form_of, room};
 use rym1::Cause;
 
-// Why no tree is made of a file, or the form in which its lookup stands in the words.
-#[derive(Clone, Copy)]
-pub enum Source {
-    Refused(Cause),
-    Read(Form),
+// The lookup of a file that 1 to 7 pass, or why no tree is made of it.
+// Two records name one cell where fewer cells are occupied.
+fn read_accepted(words: &mut [u32], file: PointFile<'_>) -> Result<Form, Cause>
+    ensures { Sourced file.entry.bytes.now words.old result words.new }
+{
+    let form = form_of(file);
+    if words.len() < room(form, file.grid()) {
+        return Err(Cause::ScratchShort);
+    }
+    if fill(words, file, form) < file.count() {
+        return Err(Cause::CellTwice);
+    }
+    Ok(form)
 }
 
-// 1 to 8, 21, or the lookup. Two records name one cell where fewer cells are occupied.
-pub fn read_source(words: &mut [u32], file: &[u8]) -> Source
+// The form in which the file's lookup stands in the words, or why no tree is made of it: 1 to 8, or 21.
+pub fn read_source(words: &mut [u32], file: &[u8]) -> Result<Form, Cause>
     ensures { Sourced file.now words.old result words.new }
 {
-    let cause = parse_mascon_bytes(file);
-    if is_refused(cause) {
-        return Source::Refused(cause);
-    }
-    let form = form_of(file);
-    if words.len() < room(form, grid(file)) {
-        return Source::Refused(Cause::ScratchShort);
-    }
-    if fill(words, file, form) < count(file) {
-        return Source::Refused(Cause::CellTwice);
-    }
-    Source::Read(form)
+    let accepted = parse_mascon_bytes(file)?;
+    read_accepted(words, accepted)
 }

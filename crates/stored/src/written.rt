@@ -1,31 +1,34 @@
 // A case of costliest.bin. Words: g, the length of the output; the answer. From byte 64 and 3520 the output before and after.
 ghost use Rattle.std.specs.Prelude.{◌≤◌, length};
+ghost use Rattle.std.proofs.Common.{lit≤};
 
-use crate::parts::{are_same_bytes, copy_bytes, tree_bytes};
+use crate::Case;
+use crate::parts::BYTE;
 use number::answer_number;
 
-pub const SIZE: usize = 8192;
+#[derive(Drop)]
+pub struct Costliest;
 
 // Writes the point file of the case's most costly model into a lent buffer of the case's length.
 fn is_same_file(case: &[u8], out: &mut [u8]) -> bool
     requires { (8192 ≤ length case.now) × (length out.old ≤ 3456) }
 {
-    copy_bytes(out, case, 64);
+    let n = out.len();
+    out.copy_from_slice(&case[64..64 + n]);
     let answer = answer_number(costliest::write_costliest(binary::u32_at(case, 0), out));
-    if answer != binary::u32_at(case, 8) as u64 {
-        return false;
-    }
-    are_same_bytes(out, case, 3520)
+    answer == binary::u32_at(case, 8) as u64 && out[..] == case[3520..3520 + n]
 }
 
-pub fn is_same(case: &[u8]) -> bool {
-    if case.len() < SIZE {
-        return false;
+impl Case for Costliest {
+    ghost SIZE = { 8192 };
+
+    const SIZE: usize = 8192;
+
+    ghost short = { lit≤ tt };
+
+    fn is_same_whole(case: &[u8]) -> bool {
+        let out = binary::u32_at(case, 4) as usize;
+        let mut image = [BYTE; 3456];
+        out <= 3456 && is_same_file(case, &mut image[..out])
     }
-    let out = binary::u32_at(case, 4) as usize;
-    if 3456 < out {
-        return false;
-    }
-    let mut image = tree_bytes();
-    is_same_file(case, &mut image[..out])
 }

@@ -11,7 +11,6 @@ use lib.Ieee.Scale as ieee
 use lib.Dec.{ltb}
 use Rattle.rym1.specs.Bytes.{word16, word32}
 use Rattle.rym1.specs.File.{grid, count, size, point_at, points, finite, file_cause}
-use Rattle.rym1.proofs.Bytes.{AllBytes, word_lt}
 use Rattle.rym1.proofs.Accepted.{accepted, accepted_points, sound, each_sound}
 use Rattle.rym1.proofs.Causes.{and_true_r}
 use Rattle.float.proofs.Finite.{reads_nan}
@@ -41,13 +40,6 @@ with_moments s p cm em km a b c = rw (a, b, c)
 pub record Adding (f : List ℕ) (z y n : ℕ) (t₀ : Sums) (i₀ : ℕ) (t : Sums) (i : ℕ) : Type 0 where
   pub few : t.count + (n - i) ≡ t₀.count + (n - i₀)
   pub so_far : total t (placed f z y i (n - i)) ≡ total t₀ (placed f z y i₀ (n - i₀))
-
-pub adding_start : (f : List ℕ) (z y n : ℕ) (t : Sums) (i : ℕ) → Adding f z y n t i t i
-adding_start f z y n t i = record { few = refl; so_far = refl }
-
-pub count_fits : (f : List ℕ) → AllBytes f → count f < 4294967296
-unfolding count
-count_fits f all = word_lt 4 f 12 all
 
 -- a record lies in the file
 pub record_there : (f : List ℕ) (at i : ℕ) → file_cause f ≡ 0 → i < count f → at ≡ 64 + 16 * i → at + 16 ≤ length f

@@ -1,19 +1,17 @@
 -- Laws of order words on end: those of a loop's places, one after the other, are all of it. Assumes nothing.
 use Prim.Native.Nat.{ℕ, zero, suc, ◌+◌, ◌-◌, ◌*◌, ◌≤◌, ◌<◌}
 use mathlib.Core.Path.{◌≡◌, refl, sym, ap, ◌∙◌}
-use mathlib.Core.List.{List, ◌∷◌, ◌++◌, map-append}
+use mathlib.Core.List.{List, [], ◌∷◌, ◌++◌, map-append}
 use native.Mathlib.Numerals.{add-one}
 use native.Mathlib.Omega.{arith}
-use lib.ListN.{length, length-map}
+use lib.ListN.{length, length-map, length-append}
 use Rattle.rym1.specs.Bytes.{le, splice, words_bytes}
 use Rattle.rym1.proofs.Bytes.{length_le, length_splice, splice_none, splice_splice, length_words, words_append}
-use Rattle.rtm1.specs.Visit.{Placed, run}
+use Rattle.rtm1.specs.Visit.{Placed}
 use Rattle.rtm1.specs.Tree.{indices}
-use Rattle.rtm1.proofs.Visit.{run_first, run_none}
 use Rattle.runs.specs.Runs.{placed}
 use Rattle.runs.proofs.Runs.{length_placed}
 use Rattle.sums.specs.Ordered.{upward, Room, Ordered}
-use Rattle.sums.proofs.Turns.{length_on, length_none}
 
 -- ---- words as bytes
 
@@ -47,9 +45,6 @@ pub record Counting (n : ℕ) (s₀ : List ℕ) (p₀ i₀ : ℕ) (s : List ℕ)
   pub next : p + 4 * (n - i) ≡ p₀ + 4 * (n - i₀)
   pub bytes : splice s p (words_bytes (upward i (n - i))) ≡ splice s₀ p₀ (words_bytes (upward i₀ (n - i₀)))
 
-pub counting_start : (n : ℕ) (s : List ℕ) (p i : ℕ) → Counting n s p i s p i
-counting_start n s p i = record { long = refl; next = refl; bytes = refl }
-
 length_upward : (i k : ℕ) → length (upward i k) ≡ k
 unfolding upward
 length_upward i zero = refl
@@ -62,9 +57,6 @@ upward_first n i h =
     ap (λ (k : ℕ). words_bytes (upward i k)) more ∙ ap (λ (j : ℕ). le 4 i ++ words_bytes (upward j (n - (i + 1)))) (sym (add-one i))
 
 module _ (n : ℕ) (s₀ : List ℕ) (p₀ i₀ : ℕ) (room : p₀ + 4 * (n - i₀) ≤ length s₀) where
-  pub counting_room : (s : List ℕ) (p i : ℕ) → i < n → Counting n s₀ p₀ i₀ s p i → p + 4 ≤ length s
-  counting_room s p i h g = omega (arith, g.long, g.next)
-
   pub counting_turn : (s s' : List ℕ) (p i : ℕ) → i < n → s' ≡ splice s p (le 4 i) → Counting n s₀ p₀ i₀ s p i → Counting n s₀ p₀ i₀ s' (p + 4) (i + 1)
   counting_turn s s' p i h e g =
       let rest = words_bytes (upward (i + 1) (n - (i + 1))) in
@@ -93,47 +85,38 @@ counting_end n s₀ p₀ i₀ k s p i en h g =
 
 -- ---- a loop
 
--- from s₀, p₀, x₀ to s, p, x: what stands, with what is to come of f up to n, is all of it
-pub record Storing (f : ℕ → List Placed) (n : ℕ) (s₀ : List ℕ) (p₀ x₀ : ℕ) (s : List ℕ) (p x : ℕ) : Type 0 where
+-- from s₀, p₀ to s, p: what stands, with the points to come, is all of them
+pub record Storing (all : List Placed) (s₀ : List ℕ) (p₀ : ℕ) (rest : List Placed) (s : List ℕ) (p : ℕ) : Type 0 where
   pub long : length s ≡ length s₀
-  pub next : p + 4 * length (run f x (n - x)) ≡ p₀ + 4 * length (run f x₀ (n - x₀))
-  pub bytes : splice s p (order_bytes (run f x (n - x))) ≡ splice s₀ p₀ (order_bytes (run f x₀ (n - x₀)))
+  pub next : p + 4 * length rest ≡ p₀ + 4 * length all
+  pub bytes : splice s p (order_bytes rest) ≡ splice s₀ p₀ (order_bytes all)
 
-pub storing_start : (f : ℕ → List Placed) (n : ℕ) (s : List ℕ) (p x : ℕ) → Storing f n s p x s p x
-storing_start f n s p x = record { long = refl; next = refl; bytes = refl }
+-- a turn stores the points ps, and leaves the rest
+module _ (all : List Placed) (s₀ : List ℕ) (p₀ : ℕ) (room : Room s₀ p₀ all) (s : List ℕ) (p : ℕ) (before ps rest : List Placed) (first : before ≡ ps ++ rest) (g : Storing all s₀ p₀ before s p) where
+  all_long : length before ≡ length ps + length rest
+  all_long = ap length first ∙ length-append ps rest
 
-module _ (f : ℕ → List Placed) (n : ℕ) (s₀ : List ℕ) (p₀ x₀ : ℕ) (room : Room s₀ p₀ (run f x₀ (n - x₀))) where
-  module _ (s : List ℕ) (p x x' : ℕ) (ps : List Placed) (first : run f x (n - x) ≡ ps ++ run f x' (n - x')) (g : Storing f n s₀ p₀ x₀ s p x) where
-    pub room_on : Room s p ps
-    room_on = omega (arith, length_on f n x x' ps first, g.long, g.next, room)
+  pub room_on : Room s p ps
+  room_on = omega (arith, all_long, g.long, g.next, room)
 
-    -- a turn stores the points ps, and leaves those from x' on
-    pub storing_on : (s' : List ℕ) (p' : ℕ) → Ordered s p ps s' p' → Storing f n s₀ p₀ x₀ s' p' x'
-    storing_on s' p' d =
-        let rest = run f x' (n - x') in
-        let all = length_on f n x x' ps first in
-        let fits : p + length (order_bytes ps) + length (order_bytes rest) ≤ length s = omega (arith, all, length_order ps, length_order rest, g.long, g.next, room) in
-        record {
-          long = ap length d.bytes ∙ length_splice s p (order_bytes ps) (omega (arith, fits)) ∙ g.long;
-          next = omega (arith, all, d.behind, g.next);
-          bytes =
-              ap (λ (l : List ℕ). splice l p' (order_bytes rest)) d.bytes
-              ∙ splice_splice s p (order_bytes ps) (order_bytes rest) p' fits (omega (arith, d.behind, length_order ps))
-              ∙ ap (splice s p) (sym (order_append ps rest))
-              ∙ ap (λ (ps : List Placed). splice s p (order_bytes ps)) (sym first)
-              ∙ g.bytes;
-        }
+  pub storing_on : (s' : List ℕ) (p' : ℕ) → Ordered s p ps s' p' → Storing all s₀ p₀ rest s' p'
+  storing_on s' p' d =
+      let fits : p + length (order_bytes ps) + length (order_bytes rest) ≤ length s = omega (arith, all_long, length_order ps, length_order rest, g.long, g.next, room) in
+      record {
+        long = ap length d.bytes ∙ length_splice s p (order_bytes ps) (omega (arith, fits)) ∙ g.long;
+        next = omega (arith, all_long, d.behind, g.next);
+        bytes =
+            ap (λ (l : List ℕ). splice l p' (order_bytes rest)) d.bytes
+            ∙ splice_splice s p (order_bytes ps) (order_bytes rest) p' fits (omega (arith, d.behind, length_order ps))
+            ∙ ap (splice s p) (sym (order_append ps rest))
+            ∙ ap (λ (ps : List Placed). splice s p (order_bytes ps)) (sym first)
+            ∙ g.bytes;
+      }
 
-  pub storing_room : (s : List ℕ) (p x : ℕ) → x < n → Storing f n s₀ p₀ x₀ s p x → Room s p (f x)
-  storing_room s p x h g = room_on s p x (x + 1) (f x) (run_first f n x h) g
-
-  pub storing_turn : (s s' : List ℕ) (p p' x : ℕ) → x < n → Ordered s p (f x) s' p' → Storing f n s₀ p₀ x₀ s p x → Storing f n s₀ p₀ x₀ s' p' (x + 1)
-  storing_turn s s' p p' x h d g = storing_on s p x (x + 1) (f x) (run_first f n x h) g s' p' d
-
-pub storing_end : (f : ℕ → List Placed) (n : ℕ) (s₀ : List ℕ) (p₀ x₀ : ℕ) (s : List ℕ) (p x : ℕ) → n ≤ x → Storing f n s₀ p₀ x₀ s p x → Ordered s₀ p₀ (run f x₀ (n - x₀)) s p
+pub storing_end : (all : List Placed) (s₀ : List ℕ) (p₀ : ℕ) (rest : List Placed) (s : List ℕ) (p : ℕ) → rest ≡ [] → Storing all s₀ p₀ rest s p → Ordered s₀ p₀ all s p
 unfolding words_bytes
-storing_end f n s₀ p₀ x₀ s p x h g =
+storing_end all s₀ p₀ rest s p none g =
     record {
-      bytes = sym (ap (λ (ps : List Placed). splice s p (order_bytes ps)) (run_none f n x h) ∙ splice_none s p) ∙ g.bytes;
-      behind = omega (arith, length_none f n x h, g.next);
+      bytes = sym (ap (λ (ps : List Placed). splice s p (order_bytes ps)) none ∙ splice_none s p) ∙ g.bytes;
+      behind = omega (arith, ap length none, g.next);
     }

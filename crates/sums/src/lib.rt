@@ -11,12 +11,13 @@ ghost use Rattle.rym1.specs.Bytes.{word32};
 ghost use Rattle.rym1.specs.File.{count, file_cause};
 ghost use Rattle.rym1.specs.Cells.{look};
 ghost use Rattle.rtm1.specs.Boxes.{Within};
-ghost use Rattle.rtm1.specs.Visit.{moved, shifted, with, total, nothing, row, plane, visit};
+ghost use Rattle.rtm1.specs.Visit.{moved, shifted, with, total, nothing, visit};
 ghost use Rattle.rtm1.specs.Tree.{sums_of};
-ghost use Rattle.runs.specs.Runs.{placed, Ready};
+ghost use Rattle.runs.specs.Walk.{points_of};
 
 use rtm1::{Cells, Sums};
-use runs::{Form, next_run};
+use runs::Lookup;
+use runs::walk::Stretch;
 
 // No point.
 fn nothing() -> Sums
@@ -43,7 +44,7 @@ fn moment(m: [f64; 3], x: u32, y: u32, z: u32, mass: f64) -> [f64; 3]
     ]
 }
 
-// The constant moment with one more point: plain coordinate.
+// The constant moment with one more point: plain coordinate. Not `moment` of mass 1, which is three multiplications a point more.
 fn shift(m: [f64; 3], x: u32, y: u32, z: u32) -> [f64; 3]
     ensures { result ≡ shifted m x y z }
 {
@@ -79,85 +80,32 @@ fn mass_at(file: &[u8], at: usize) -> f64
     f32::from_bits(binary::u32_at(file, at)) as f64
 }
 
-// The sums with k records on end, from record i on, which lie in row y, z.
-fn add_records(file: &[u8], s: Sums, z: u32, y: u32, i: u32, k: u32) -> Sums
+// The sums with a stretch of records.
+fn add_records(file: &[u8], s: Sums, r: Stretch) -> Sums
     requires accepted { file_cause file.now ≡ 0 }
-    requires room { (i + k ≤ count file.now) × (s.count + k < 4294967296) }
-    ensures { result ≡ total s (placed file.now z y i k) }
+    requires room { (r.index + r.count ≤ count file.now) × (s.count + r.count < 4294967296) }
+    ensures { result ≡ total s (points_of file.now r) }
 {
     let mut t = s;
-    let mut index = i as usize;
-    let end = index + k as usize;
-    while index < end {
-        let at = 64 + 16 * index;
+    for index in r.index..r.index + r.count {
+        let at = 64 + 16 * index as usize;
         let x = binary::u16_at(file, at);
         let cauchy = mass_at(file, at + 8);
         let elliptic = mass_at(file, at + 12);
-        t = with_point(t, x, y, z, cauchy, elliptic);
-        index += 1;
-    }
-    t
-}
-
-// The sums with a row of the box.
-fn visit_row(
-    words: &[u32],
-    file: &[u8],
-    form: Form,
-    g: u32,
-    b: Cells,
-    z: u32,
-    y: u32,
-    s: Sums,
-) -> Sums
-    requires ready { Ready form words.now file.now g }
-    requires within { Within g b }
-    requires in_grid { (y < g) × (z < g) × (s.count ≤ 2147483648) }
-    ensures value { result ≡ total s (row (look file.now) g b z y) }
-    ensures few { result.count ≤ s.count + 256 }
-{
-    let mut t = s;
-    let mut x = b.x0;
-    let end = b.x1;
-    while x < end {
-        let r = next_run(words, file, form, g, z, y, x, end);
-        t = add_records(file, t, z, y, r.index, r.count);
-        x = r.next;
-    }
-    t
-}
-
-// The sums with a plane of the box.
-fn visit_plane(words: &[u32], file: &[u8], form: Form, g: u32, b: Cells, z: u32, s: Sums) -> Sums
-    requires ready { Ready form words.now file.now g }
-    requires within { Within g b }
-    requires in_grid { (z < g) × (s.count ≤ 1073741824) }
-    ensures value { result ≡ total s (plane (look file.now) g b z) }
-    ensures few { result.count ≤ s.count + 65536 }
-{
-    let mut t = s;
-    let mut y = b.y0;
-    let end = b.y1;
-    while y < end {
-        t = visit_row(words, file, form, g, b, z, y, t);
-        y += 1;
+        t = with_point(t, x, r.y, r.z, cauchy, elliptic);
     }
     t
 }
 
 // The sums of a box.
-pub fn sums_of(words: &[u32], file: &[u8], form: Form, g: u32, b: Cells) -> Sums
-    requires ready { Ready form words.now file.now g }
-    requires within { Within g b }
-    ensures value { result ≡ sums_of (look file.now) g b }
-    ensures counted { result.count ≡ length (visit (look file.now) g b) }
+pub fn sums_of(lookup: &Lookup<'_>, b: Cells) -> Sums
+    requires { Within lookup.now.g b }
+    ensures value { result ≡ sums_of (look lookup.now.file.now) lookup.now.g b }
+    ensures counted { result.count ≡ length (visit (look lookup.now.file.now) lookup.now.g b) }
 {
     let mut t = nothing();
-    let mut z = b.z0;
-    let end = b.z1;
-    while z < end {
-        t = visit_plane(words, file, form, g, b, z, t);
-        z += 1;
+    for r in lookup.runs(b) {
+        t = add_records(lookup.file, t, r);
     }
     t
 }

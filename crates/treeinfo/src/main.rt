@@ -5,22 +5,22 @@
 use mascon_tree::build_mascon_tree;
 use number::cause_number;
 use reading::read_full;
-use rtm1::{Built, Counts};
+use rtm1::Counts;
+use rym1::Cause;
 use std::io;
 
-fn report(rt: &impl Print, built: Built) -> io::Result<()> {
+fn report(rt: &impl Print, built: Result<Counts, Cause>) -> io::Result<()> {
     match built {
-        Built::Refused(cause) => {
-            let number = cause_number(cause);
-            println!(rt; "refused {number}")
-        }
-        Built::Done(counts) => {
-            let Counts {
+        Ok(
+            Counts {
                 length,
                 nodes,
                 order,
-            } = counts;
-            println!(rt; "nodes {nodes} order {order} bytes {length}")
+            },
+        ) => println!(rt; "nodes {nodes} order {order} bytes {length}"),
+        Err(cause) => {
+            let number = cause_number(cause);
+            println!(rt; "refused {number}")
         }
     }
 }

@@ -3,19 +3,29 @@
 
 mod replay;
 
-use replay::{Kind, replay_file};
+use replay::replay_file;
 use std::io;
+use stored::built::Build;
+use stored::costed::Cost;
+use stored::edited::Edit;
+use stored::narrowed::Narrow;
+use stored::opened::Open;
+use stored::written::Costliest;
+use stored_marks::searched::Next;
+use stored_meshes::crossed::Ray;
+use stored_meshes::filled::Fill;
+use stored_meshes::sided::Inside;
 
 fn main(rt: HostRuntime) -> io::Result<()> {
-    replay_file(&rt, "narrow", "narrow.bin", Kind::Narrow)?;
-    replay_file(&rt, "open", "open.bin", Kind::Open)?;
-    replay_file(&rt, "build", "build.bin", Kind::Build)?;
-    replay_file(&rt, "cost", "cost.bin", Kind::Cost)?;
-    replay_file(&rt, "costliest", "costliest.bin", Kind::Costliest)?;
-    replay_file(&rt, "next", "next.bin", Kind::Next)?;
-    replay_file(&rt, "edit", "edit.bin", Kind::Edit)?;
-    replay_file(&rt, "ray", "ray.bin", Kind::Ray)?;
-    replay_file(&rt, "inside", "inside.bin", Kind::Inside)?;
-    replay_file(&rt, "fill", "fill.bin", Kind::Fill)?;
+    replay_file::<Narrow, _>(&rt, "narrow", "narrow.bin")?;
+    replay_file::<Open, _>(&rt, "open", "open.bin")?;
+    replay_file::<Build, _>(&rt, "build", "build.bin")?;
+    replay_file::<Cost, _>(&rt, "cost", "cost.bin")?;
+    replay_file::<Costliest, _>(&rt, "costliest", "costliest.bin")?;
+    replay_file::<Next, _>(&rt, "next", "next.bin")?;
+    replay_file::<Edit, _>(&rt, "edit", "edit.bin")?;
+    replay_file::<Ray, _>(&rt, "ray", "ray.bin")?;
+    replay_file::<Inside, _>(&rt, "inside", "inside.bin")?;
+    replay_file::<Fill, _>(&rt, "fill", "fill.bin")?;
     Ok(())
 }

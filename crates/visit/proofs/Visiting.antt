@@ -1,13 +1,14 @@
 -- Laws of the visit of the cells: what the cells passed leave, and what one more adds. Assumes nothing.
 use Prim.Native.Nat.{ℕ, suc, ◌+◌, ◌-◌, ◌*◌, ◌≤◌, ◌<◌}
 use mathlib.Core.Path.{◌≡◌, refl, sym, ap, ◌∙◌, subst}
-use mathlib.Core.Bool.{Bool, true, false, not, cond, ◌&&◌, ◌||◌, and-true, and_assoc, or-true, or-false}
+use mathlib.Core.Bool.{Bool, true, false, not, cond, ◌&&◌, ◌||◌, and-true, and_assoc}
 use mathlib.Core.List.{List, [], ◌∷◌, ◌++◌, append-nil, append_assoc}
 use native.Mathlib.Nat.{sub-zero}
 use native.Mathlib.Numerals.{add-one}
 use native.Mathlib.Omega.{arith}
 use lib.ListN.{length, length-append}
 use lib.Ieee.{Float}
+use Rattle.std.proofs.Common.{Some, None}
 use borrow.Author.Tests.{lt-ltb, le-ltb}
 use Rattle.float.specs.Number.{zero64}
 use Rattle.rym1.specs.Bytes.{splice}
@@ -25,7 +26,6 @@ use Rattle.filling.specs.Inside.{test_box, is_inside}
 use Rattle.filling.specs.Frame.{middle}
 use Rattle.filling.specs.Fill.{capacity, inner_from, inner, mass_of, raw_from, fine, masses_finite}
 use Rattle.visit.specs.declared.Found.{Found}
-use Rattle.visit.specs.declared.Visit.TheVariants.{Done, Full}
 use Rattle.visit.specs.Visited.{raw_point, raw_points, found, with_cell, visited, Visiting}
 
 -- ---- one cell more, behind the others
@@ -63,13 +63,6 @@ found_more f g ks es cs c =
     not_and (masses_finite (raw_points f g ks es cs)) (fine (raw_point f g ks es c))
     ∙ ap not (sym (ap masses_finite (raw_points_more f g ks es cs c) ∙ finite_more (raw_points f g ks es cs) (raw_point f g ks es c))) in
     rw (raw_more f g ks zero64 cs c, raw_more f g es zero64 cs c, length-append cs (c ∷ []), large)
-
--- the flag after a record: set where the record was not written
-pub large_taken : (l r : Bool) → not r ≡ true → true ≡ (l || not r)
-large_taken l r h = rw h (sym (or-true l))
-
-pub large_left : (l r : Bool) → not r ≡ false → l ≡ (l || not r)
-large_left l r h = rw h (sym (or-false l))
 
 -- ---- the cells from c on
 
@@ -166,19 +159,19 @@ module _ (ts : List Triangle) (f : Frame) (g : ℕ) (ks es : List Kernel) (out�
 
   -- all cells are passed
   pub visit_end : (c : ℕ) (w : Found) (out : List ℕ) → c ≡ cube g → Visited-so-far ts f g ks es out₀ c w out
-      → Visiting f g ks es (inner ts f g) out₀ (Done w) out
+      → Visiting f g ks es (inner ts f g) out₀ (Some w) out
   unfolding inner_from visited
   visit_end c w out e v =
       let none : cube g - c ≡ 0 = omega arith in
       let all : v.below ≡ inner ts f g = sym (append-nil v.below) ∙ (rw none at v.rest) in
       record {
-        answer = ap Done v.finds ∙ rw (← all, le-ltb (capacity g) (length v.below) v.few);
+        answer = ap Some v.finds ∙ rw (← all, le-ltb (capacity g) (length v.below) v.few);
         points = λ h fin. subst (λ (cs : List ℕ). out ≡ splice out₀ 64 (points_bytes (raw_points f g ks es cs))) all (v.bytes (subst (λ (cs : List ℕ). masses_finite (raw_points f g ks es cs) ≡ true) (sym all) fin));
       }
 
   -- one cell more is inside than there is room for
   pub visit_full : (c : ℕ) (w : Found) (out out₁ : List ℕ) → c < cube g → is_inside (test_box ts) ts (middle f g c) ≡ true
-      → capacity g ≤ w.count → Visited-so-far ts f g ks es out₀ c w out → Visiting f g ks es (inner ts f g) out₀ Full out₁
+      → capacity g ≤ w.count → Visited-so-far ts f g ks es out₀ c w out → Visiting f g ks es (inner ts f g) out₀ None out₁
   unfolding visited
   visit_full c w out out₁ h e l v =
       let after = inner_from ts f g (c + 1) (cube g - (c + 1)) in

@@ -1,19 +1,16 @@
 -- What the visit of the cells finds and leaves behind: the records before their scaling. Definitions only.
-use Rattle.std.specs.Prelude.{ℕ, ◌+◌, ◌/◌, ◌≤◌, ◌<◌, ◌≡◌, true, not, cond, ◌||◌, List, [], ◌∷◌, length, ltb, Float}
+use Rattle.std.specs.Prelude.{ℕ, ◌+◌, ◌≤◌, ◌≡◌, true, not, cond, ◌||◌, List, [], ◌∷◌, length, ltb, Option, Some, None}
 use Rattle.float.specs.Narrow.{float_word}
 use Rattle.float.specs.Number.{zero64}
 use Rattle.rym1.specs.declared.Point.{Point}
 use Rattle.rym1.specs.Bytes.{splice}
-use Rattle.rym1.specs.File.{size, points_bytes}
+use Rattle.rym1.specs.File.{points_bytes}
 use Rattle.rym1.specs.Cells.{cell_point}
 use Rattle.filling.specs.declared.Kernel.{Kernel}
 use Rattle.filling.specs.declared.Frame.{Frame}
-use Rattle.filling.specs.Lists.{mesh, good_triangles}
 use Rattle.filling.specs.Vector.{plus}
 use Rattle.filling.specs.Fill.{capacity, mass_of, raw_from, fine, masses_finite}
 use Rattle.visit.specs.declared.Found.{Found}
-use Rattle.visit.specs.declared.Visit.{Visit}
-use Rattle.visit.specs.declared.Visit.TheVariants.{Done, Full}
 
 -- a cell's record, its masses narrowed, not yet scaled
 unfoldable pub raw_point : Frame → ℕ → List Kernel → List Kernel → ℕ → Point
@@ -43,18 +40,10 @@ with_cell f g ks es w c =
       large = w.large || not (fine (raw_point f g ks es c));
     }
 
-unfoldable pub visited : Frame → ℕ → List Kernel → List Kernel → List ℕ → Visit
-visited f g ks es cs = cond (ltb (capacity g) (length cs)) Full (Done (found f g ks es cs))
+unfoldable pub visited : Frame → ℕ → List Kernel → List Kernel → List ℕ → Option Found
+visited f g ks es cs = cond (ltb (capacity g) (length cs)) None (Some (found f g ks es cs))
 
 -- the visit's answer, and the output where the points have room and their masses are finite
-pub record Visiting (f : Frame) (g : ℕ) (ks es : List Kernel) (cs : List ℕ) (out : List ℕ) (r : Visit) (out' : List ℕ) : Type 0 where
+pub record Visiting (f : Frame) (g : ℕ) (ks es : List Kernel) (cs : List ℕ) (out : List ℕ) (r : Option Found) (out' : List ℕ) : Type 0 where
   pub answer : r ≡ visited f g ks es cs
   pub points : length cs ≤ capacity g → masses_finite (raw_points f g ks es cs) ≡ true → out' ≡ splice out 64 (points_bytes (raw_points f g ks es cs))
-
--- what it asks: a mesh within bounds, floats for its triangles, room for half the cells
-pub record Ready (s : List ℕ) (g : ℕ) (floats : List Float) (out : List ℕ) : Type 0 where
-  pub some : 0 < g
-  pub few : g ≤ 256
-  pub good : good_triangles (mesh s) ≡ true
-  pub scratch : length s / 72 ≤ length floats
-  pub room : size (capacity g) ≤ length out

@@ -4,11 +4,11 @@ ghost use Rattle.filling.specs.Frame as def;
 ghost use Rattle.filling.specs.Fill.{flat, box_flat};
 
 use filling::{Bounds, Frame, Vec3};
-use float::Narrowed;
 use float::number::scalar_min;
-use model::sub;
+use model::{all_axes, each_axis, sub};
 
 // How far the box is moved outward: half a cell of its shortest side.
+#[tactic(auto, unfolding(filling::specs::Frame::padding))]
 fn padding(b: Bounds, g: u32) -> f64
     ensures { result ≡ def.padding b g }
 {
@@ -18,25 +18,14 @@ fn padding(b: Bounds, g: u32) -> f64
 }
 
 // The box b with its sides moved outward by pad, as cells, n to an axis.
+#[tactic(auto, unfolding(filling::specs::Frame::frame_padded, filling::specs::Vector::sub))]
 fn frame_padded(b: Bounds, pad: f64, n: f64) -> Frame
     ensures { result ≡ def.frame_padded b pad n }
 {
-    let min = Vec3 {
-        x: b.min.x - pad,
-        y: b.min.y - pad,
-        z: b.min.z - pad,
-    };
-    let max = Vec3 {
-        x: b.max.x + pad,
-        y: b.max.y + pad,
-        z: b.max.z + pad,
-    };
-    let extent = sub(max, min);
-    let cell = Vec3 {
-        x: extent.x / n,
-        y: extent.y / n,
-        z: extent.z / n,
-    };
+    let by = all_axes(pad);
+    let min = sub(b.min, by);
+    let max = each_axis(|v, m| v + m, b.max, by);
+    let cell = each_axis(|v, m| v / m, sub(max, min), all_axes(n));
     let volume = cell.x * cell.y * cell.z;
     Frame {
         min,
@@ -47,12 +36,14 @@ fn frame_padded(b: Bounds, pad: f64, n: f64) -> Frame
 }
 
 // The cells of a mesh's box, g to an axis.
+#[tactic(auto, unfolding(filling::specs::Frame::frame))]
 pub fn frame_of(b: Bounds, g: u32) -> Frame
     ensures { result ≡ def.frame b g }
 {
     frame_padded(b, padding(b, g), g as f64)
 }
 
+#[tactic(auto, unfolding(filling::specs::Frame::middle_on))]
 fn middle_on(min: f64, cell: f64, n: u32) -> f64
     ensures { result ≡ def.middle_on min cell n }
 {
@@ -60,6 +51,7 @@ fn middle_on(min: f64, cell: f64, n: u32) -> f64
 }
 
 // The point of a cell, by the cell's number.
+#[tactic(auto, unfolding(filling::specs::Frame::middle))]
 pub fn middle(f: Frame, g: u32, c: u32) -> Vec3
     requires { 0 < g }
     ensures { result ≡ def.middle f g c }
@@ -73,28 +65,19 @@ pub fn middle(f: Frame, g: u32, c: u32) -> Vec3
 // ---- 19
 
 // Whether min is not below max once both are narrowed.
+#[tactic(auto, using(binary::proofs::Words::word_large), unfolding(filling::specs::Fill::flat, filling::specs::Fill::below_narrowed))]
 fn flat(min: f64, max: f64) -> bool
     ensures { result ≡ flat min max }
 {
-    let least = float::narrow(min);
-    let Narrowed::Finite(low) = least else {
-        return true;
-    };
-    let greatest = float::narrow(max);
-    let Narrowed::Finite(high) = greatest else {
+    let (Some(low), Some(high)) = (float::narrow(min), float::narrow(max)) else {
         return true;
     };
     !(low < high)
 }
 
+#[tactic(auto, unfolding(filling::specs::Fill::box_flat))]
 pub fn box_flat(f: Frame) -> bool
     ensures { result ≡ box_flat f }
 {
-    if flat(f.min.x, f.max.x) {
-        return true;
-    }
-    if flat(f.min.y, f.max.y) {
-        return true;
-    }
-    flat(f.min.z, f.max.z)
+    flat(f.min.x, f.max.x) || flat(f.min.y, f.max.y) || flat(f.min.z, f.max.z)
 }

@@ -3,28 +3,28 @@
 
 pub mod frame;
 
-ghost use Rattle.std.specs.Prelude.{◌≡◌, cond, ◌&&◌, ◌+◌, ◌*◌, ◌≤◌, ◌<◌, length};
+ghost use Rattle.std.specs.Prelude.{◌≡◌, cond, is_some, ◌&&◌, ◌+◌, ◌*◌, ◌/◌, ◌≤◌, ◌<◌, length};
 ghost use Rattle.rym1.specs.Bytes.{splice};
 ghost use Rattle.float.specs.Narrow.{float_word};
-ghost use Rattle.rym1.specs.File.{finite, point_bytes};
+ghost use Rattle.rym1.specs.File.{finite, size, cube, point_bytes};
 ghost use Rattle.rym1.specs.Cells.{cell_point};
 ghost use Rattle.filling.specs.Vector.{times};
-ghost use Rattle.filling.specs.Lists.{mesh, kernels};
+ghost use Rattle.filling.specs.Lists.{mesh as mesh_of, kernels};
 ghost use Rattle.filling.specs.Inside.{test_box};
 ghost use Rattle.filling.specs.Density.{density_at};
 ghost use Rattle.filling.specs.Frame as def;
 ghost use Rattle.filling.specs.Fill.{capacity, inner, fine};
-ghost use Rattle.visit.specs.Visited.{raw_point, with_cell, Visiting, Ready};
+ghost use Rattle.visit.specs.Visited.{raw_point, with_cell, Visiting};
 
 use density::density_at;
 use filling::{Bounds, Frame, Vec3};
-use float::Narrowed;
 use float::pattern::f32_to_bits;
 use frame::middle;
 use inside::is_inside;
+use model::Mesh;
 use points::records::{cell_point, out_point};
 
-// How many points, the raw sums of their masses, and whether a mass is too large.
+// How many points, the raw sums of their masses, and whether a mass is too large: no Option of the sums, since the points are counted on behind such a mass.
 #[derive(Clone, Copy)]
 pub struct Found {
     pub count: u32,
@@ -33,11 +33,18 @@ pub struct Found {
     pub large: bool,
 }
 
-// What a visit comes to: its finds, or more points than half the cells.
+// What is visited: a mesh within bounds and its padded box, the two lists of kernels, and the cells, g to an axis.
 #[derive(Clone, Copy)]
-pub enum Visit {
-    Done(Found),
-    Full,
+pub struct Grid<'a> {
+    pub mesh: Mesh<'a>,
+    pub cauchy: &'a [u8],
+    pub elliptic: &'a [u8],
+    pub b: Bounds,
+    pub f: Frame,
+    pub g: u32,
+    ghost box_is: { b ≡ test_box (mesh_of mesh.bytes.now) },
+    ghost some: { 0 < g },
+    ghost few: { g ≤ 256 },
 }
 
 // A mass at a point: density × volume.
@@ -47,101 +54,87 @@ fn mass_at(list: &[u8], p: Vec3, volume: f64) -> f64
     density_at(list, p) * volume
 }
 
-// The record of the cell c with these masses, from a byte on. Answers whether none is too large; where one is, nothing is written.
-fn out_masses(out: &mut [u8], at: usize, g: u32, c: u32, cauchy: f64, elliptic: f64) -> bool
+// The record of the cell c with these masses, from a byte on; none where one is too large, and then nothing is written.
+#[tactic(auto, using(binary::proofs::Words::word_large))]
+fn out_masses(out: &mut [u8], at: usize, g: u32, c: u32, cauchy: f64, elliptic: f64) -> Option<()>
     requires { (0 < g) × (at + 16 ≤ length out.old) }
-    ensures { (result ≡ (finite (float_word cauchy) && finite (float_word elliptic)))
-        × (out.new ≡ cond result (splice out.old at (point_bytes (cell_point g c (record { cauchy = float_word cauchy; elliptic = float_word elliptic })))) out.old) }
+    ensures told { is_some result ≡ (finite (float_word cauchy) && finite (float_word elliptic)) }
+    ensures written { out.new ≡ cond (is_some result) (splice out.old at (point_bytes (cell_point g c (record { cauchy = float_word cauchy; elliptic = float_word elliptic })))) out.old }
 {
-    let narrowed = float::narrow(cauchy);
-    let Narrowed::Finite(first) = narrowed else {
-        return false;
+    let Some(first) = float::narrow(cauchy) else {
+        return None;
     };
-    let narrowed_too = float::narrow(elliptic);
-    let Narrowed::Finite(second) = narrowed_too else {
-        return false;
+    let Some(second) = float::narrow(elliptic) else {
+        return None;
     };
     let point = cell_point(g, c, f32_to_bits(first), f32_to_bits(second));
     out_point(out, at, point);
-    true
+    Some(())
 }
 
 // Adds the cell c, whose point p lies inside: its record behind the others, its masses to the sums.
-fn add_cell(
-    cauchy: &[u8],
-    elliptic: &[u8],
-    f: Frame,
-    g: u32,
-    c: u32,
-    p: Vec3,
-    w: Found,
-    out: &mut [u8],
-) -> Found
-    requires room { (0 < g) × (w.count < 16777216) × (64 + 16 * w.count + 16 ≤ length out.old) }
-    requires middle { p ≡ def.middle f g c }
-    ensures value { result ≡ with_cell f g (kernels cauchy.now) (kernels elliptic.now) w c }
-    ensures out_after { out.new ≡ cond (fine (raw_point f g (kernels cauchy.now) (kernels elliptic.now) c))
-        (splice out.old (64 + 16 * w.count) (point_bytes (raw_point f g (kernels cauchy.now) (kernels elliptic.now) c))) out.old }
+#[tactic(auto, unfolding(filling::specs::Fill::mass_of, crate::specs::Visited::raw_point, crate::specs::Visited::with_cell, rym1::specs::Cells::cell_point))]
+fn add_cell(grid: &Grid, c: u32, p: Vec3, w: Found, out: &mut [u8]) -> Found
+    requires room { (w.count < 16777216) × (64 + 16 * w.count + 16 ≤ length out.old) }
+    requires middle { p ≡ def.middle grid.now.f grid.now.g c }
+    ensures value { result ≡ with_cell grid.now.f grid.now.g (kernels grid.now.cauchy.now) (kernels grid.now.elliptic.now) w c }
+    ensures out_after { let point = raw_point grid.now.f grid.now.g (kernels grid.now.cauchy.now) (kernels grid.now.elliptic.now) c in
+        out.new ≡ cond (fine point) (splice out.old (64 + 16 * w.count) (point_bytes point)) out.old }
 {
-    let count = w.count;
-    let first = mass_at(cauchy, p, f.volume);
-    let second = mass_at(elliptic, p, f.volume);
-    let mut large = w.large;
-    if !out_masses(out, 64 + 16 * (count as usize), g, c, first, second) {
-        large = true;
-    }
+    let first = mass_at(grid.cauchy, p, grid.f.volume);
+    let second = mass_at(grid.elliptic, p, grid.f.volume);
+    let at = 64 + 16 * (w.count as usize);
+    let fine = out_masses(out, at, grid.g, c, first, second).is_some();
     Found {
-        count: count + 1,
+        count: w.count + 1,
         cauchy: w.cauchy + first,
         elliptic: w.elliptic + second,
-        large,
+        large: w.large || !fine,
     }
 }
 
+// All cells.
+#[tactic(auto, unfolding(rym1::specs::File::cube))]
+fn cells_of(g: u32) -> u32
+    requires { g ≤ 256 }
+    ensures { result ≡ cube g }
+{
+    g * g * g
+}
+
 // Half the cells, rounded up.
+#[tactic(auto, using(rym1::proofs::Cells::cube_few), unfolding(filling::specs::Fill::capacity))]
 pub fn capacity_of(g: u32) -> u32
     requires { g ≤ 256 }
     ensures { result ≡ capacity g }
 {
-    (g * g * g + 1) / 2
+    (cells_of(g) + 1) / 2
 }
 
-// Visits all cells of the frame f; b is the inside test's box.
-pub fn visit_cells(
-    triangles: &[u8],
-    cauchy: &[u8],
-    elliptic: &[u8],
-    b: Bounds,
-    f: Frame,
-    g: u32,
-    floats: &mut [f64],
-    out: &mut [u8],
-) -> Visit
-    requires ready { Ready triangles.now g floats.old out.old }
-    requires box_is { b ≡ test_box (mesh triangles.now) }
-    ensures { Visiting f g (kernels cauchy.now) (kernels elliptic.now)
-        (inner (mesh triangles.now) f g) out.old result out.new }
+// Visits all cells: the finds, or none where there are more points than half the cells.
+#[tactic(auto, using(crate::proofs::Visiting::visit_start))]
+pub fn visit_cells(grid: &Grid, floats: &mut [f64], out: &mut [u8]) -> Option<Found>
+    requires scratch { length grid.now.mesh.bytes.now / 72 ≤ length floats.old }
+    requires room { size (capacity grid.now.g) ≤ length out.old }
+    ensures { Visiting grid.now.f grid.now.g (kernels grid.now.cauchy.now) (kernels grid.now.elliptic.now)
+        (inner (mesh_of grid.now.mesh.bytes.now) grid.now.f grid.now.g) out.old result out.new }
 {
-    let cells = g * g * g;
-    let capacity = capacity_of(g);
+    let capacity = capacity_of(grid.g);
     let mut w = Found {
         count: 0,
         cauchy: 0.0,
         elliptic: 0.0,
         large: false,
     };
-    let mut c: u32 = 0;
-    while c < cells {
-        let at = c;
-        c += 1;
-        let p = middle(f, g, at);
-        if !is_inside(triangles, b, p, floats) {
+    for c in 0..cells_of(grid.g) {
+        let p = middle(grid.f, grid.g, c);
+        if !is_inside(grid.mesh, grid.b, p, floats) {
             continue;
         }
         if capacity <= w.count {
-            return Visit::Full;
+            return None;
         }
-        w = add_cell(cauchy, elliptic, f, g, at, p, w, out);
+        w = add_cell(grid, c, p, w, out);
     }
-    Visit::Done(w)
+    Some(w)
 }

@@ -1,36 +1,29 @@
 // Where a cell stands among the records of a file in working form.
-ghost use Rattle.std.specs.Prelude.{◌≡◌};
-ghost use Rattle.rym1.specs.File.{file_cause, work_cause};
+ghost use Rattle.std.specs.Prelude.{◌≡◌, ◌≤◌};
+ghost use Rattle.rym1.specs.File.{point_at, cell_of};
 ghost use Rattle.working.specs.Spotted.{Spotted};
 
-use points::records::{cell_number, count, grid, point_at};
+use points::file::WorkingFile;
+use points::records::point_at;
 
-// The index of the cell's record, or how many records stand before its place.
-#[derive(Clone, Copy)]
-pub enum Spot {
-    Held(u32),
-    Vacant(u32),
+// The number of the cell that a record names.
+fn cell_in(g: u32, bytes: &[u8; 16]) -> u64
+    requires { g ≤ 256 }
+    ensures { result ≡ cell_of g (point_at bytes.now 0) }
+{
+    let p = point_at(bytes, 0);
+    (p.z as u64 * g as u64 + p.y as u64) * g as u64 + p.x as u64
 }
 
-pub fn find_cell(file: &[u8], c: u32) -> Spot
-    requires { (file_cause file.now ≡ 0) × (work_cause file.now ≡ 0) }
-    ensures { Spotted file.now c result }
+// Ok, the index of the cell's record; Err, how many records stand before its place.
+pub fn find_cell(file: WorkingFile<'_>, c: u32) -> Result<u32, u32>
+    ensures { Spotted file.entry.file.bytes.now c result }
 {
-    let g = grid(file);
-    let n = count(file);
-    let mut at: usize = 64;
-    let mut i: u32 = 0;
-    while i < n {
-        let p = point_at(file, at);
-        let k = cell_number(g, p.x, p.y, p.z);
-        if c <= k {
-            if c == k {
-                return Spot::Held(i);
-            }
-            return Spot::Vacant(i);
-        }
-        at += 16;
-        i += 1;
+    let g = file.file.grid();
+    let end = 64 + 16 * file.file.count() as usize;
+    let (records, _) = file.file.bytes[64..end].as_chunks::<16>();
+    match records.binary_search_by_key(&(c as u64), |record| cell_in(g, record)) {
+        Ok(i) => Ok(i as u32),
+        Err(i) => Err(i as u32),
     }
-    Spot::Vacant(i)
 }

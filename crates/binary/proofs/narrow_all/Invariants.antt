@@ -1,4 +1,4 @@
-use Prim.Native.Nat.{◌-◌, ◌≤◌}
+use Prim.Native.Nat.{◌≤◌}
 use mathlib.Core.Path.{◌≡◌}
 use lib.ListN.{length, take, drop}
 use Rattle.float.specs.Narrow.{float_words, any_large}
@@ -9,6 +9,3 @@ abbrev pub invariant-loop-i : goal.invariant-loop-i
 invariant-loop-i l =
     (l.i ≤ length l.xs) × (length l.words ≡ length l.xs) × (take l.i l.words ≡ float_words (take l.i l.xs))
     × (any_large (drop l.i l.xs) ≡ any_large l.xs) × (all_finite (float_words (drop l.i l.xs)) ≡ all_finite (float_words l.xs))
-
-abbrev pub decreases-loop-i : goal.decreases-loop-i
-decreases-loop-i l = length l.xs - l.i

@@ -1,9 +1,9 @@
 -- `binary::out_words` meets its contract: words one behind the other. Assumes nothing.
-use Prim.Native.Nat.{ℕ, ◌*◌}
+use Prim.Native.Nat.{ℕ, ◌*◌, ◌+◌}
 use mathlib.Core.Path.{◌≡◌, refl, sym, ap, ◌∙◌}
 use mathlib.Core.List.{List}
 use native.Mathlib.Omega.{arith}
-use lib.ListN.{get_or, take}
+use lib.ListN.{get_or, take, length}
 use lib.Seq.{take_all}
 use Rattle.rym1.specs.Bytes.{le, words_bytes, splice}
 use Rattle.rym1.proofs.Bytes.{splice_none, words_more}
@@ -11,22 +11,22 @@ use Rattle.binary.proofs.out_words.Goals as goal
 
 pub loop-i-init : goal.loop-i-init
 unfolding words_bytes
-loop-i-init c = (omega arith, refl, sym (splice_none _ 0))
+loop-i-init g c = (refl, sym (splice_none _ c.args.at))
 
 pub loop-i-preserved : goal.loop-i-preserved
-loop-i-preserved c =
+loop-i-preserved g c =
     let loop = c.loop-i in (
-      omega arith,
-      c.out_u32.auto.s ∙ loop.invariant.1,
+      c.out_u32.auto.s ∙ loop.invariant.0,
       c.out_u32.ensures
-          ∙ ap (λ (l : List ℕ). splice l (4 * loop.i) (le 4 (get_or c.args.words loop.i 0))) loop.invariant.2
-          ∙ words_more c.args.out.now 0 c.args.words loop.i (4 * loop.i) (omega arith) (omega arith) (omega arith),
+          ∙ ap (λ (l : List ℕ). splice l (c.args.at + 4 * loop.i) (le 4 (get_or c.args.words loop.i 0))) loop.invariant.1
+          ∙ words_more c.args.out.now c.args.at c.args.words loop.i (c.args.at + 4 * loop.i) (omega arith) (omega arith) (omega arith),
     )
 
 pub shape_of-out : goal.shape_of-out
-shape_of-out c = c.loop-i.invariant.1
+shape_of-out g c = c.loop-i.invariant.0
 
 pub returns : goal.returns
-returns c =
-    let e : c.loop-i.i ≡ 16 = omega arith in
-    c.loop-i.invariant.2 ∙ ap (λ (l : List ℕ). splice c.args.out.now 0 (words_bytes l)) (ap (λ (k : ℕ). take k c.args.words) e ∙ take_all 16 c.args.words (omega arith))
+returns g c =
+    let long = c.well_formed.1.1.0.1.0.1 in
+    let n : c.loop-i.i ≡ length c.args.words = omega arith in
+    c.loop-i.invariant.1 ∙ ap (λ (l : List ℕ). splice c.args.out.now c.args.at (words_bytes l)) (ap (λ (k : ℕ). take k c.args.words) n ∙ take_all _ c.args.words (omega arith))

@@ -4,4 +4,4 @@ use Rattle.rym1.proofs.Bytes.{read2}
 use Rattle.binary.proofs.u16_at.Goals as goal
 
 pub returns : goal.returns
-returns c = rw read2 (omega arith)
+returns c = rw read2 (omega (arith, c.from_le_bytes.ensures))

@@ -4,4 +4,4 @@ use Rattle.rym1.proofs.Bytes.{read4}
 use Rattle.binary.proofs.u32_at.Goals as goal
 
 pub returns : goal.returns
-returns c = rw read4 (omega arith)
+returns c = rw read4 (omega (arith, c.from_le_bytes.ensures))

@@ -1,18 +1,17 @@
--- `density::kernels_wrong` meets its contract: each return rewrites the definition's tests by those that led there. Assumes nothing.
-use mathlib.Core.Path.{ap}
-use mathlib.Core.Bool.{not}
-use borrow.Author.Tests.{eq-eqb, ne_eqb, lt-ltb, le-ltb}
-use Rattle.filling.specs.Lists.{kernels, kernels_wrong}
+-- `density::kernels_wrong` meets its contract: the list of its kernels is wrong. Assumes nothing.
+use Prim.Native.Nat.{ℕ, zero, suc, ◌+◌, ◌/◌}
+use mathlib.Core.Path.{◌≡◌, refl}
+use mathlib.Core.List.{List}
+use lib.ListN.{length}
+use Rattle.filling.specs.Lists.{kernel, kernels_at, kernels, good_kernel, good_kernels, kernels_wrong}
+use Rattle.model.specs.Entries.{all_good, list_wrong}
 use Rattle.density.proofs.kernels_wrong.Goals as goal
 
-pub returns-then-n-ne0 : goal.returns-then-n-ne0
-unfolding kernels_wrong
-returns-then-n-ne0 c = rw (ne_eqb _ _ c.if-n-ne0.true)
-
-pub returns-then-n-gt163840 : goal.returns-then-n-gt163840
-unfolding kernels_wrong
-returns-then-n-gt163840 c = rw (eq-eqb _ _ c.if-n-ne0.false, lt-ltb _ _ c.if-n-gt163840.true)
+kernels_good : (s : List ℕ) (at n : ℕ) → good_kernels (kernels_at s at n) ≡ all_good 40 (λ k. good_kernel (kernel s k)) at n
+unfolding good_kernels kernels_at all_good
+kernels_good s at zero = refl
+kernels_good s at (suc n) = rw (kernels_good s (at + 40) n)
 
 pub returns : goal.returns
-unfolding kernels_wrong kernels
-returns c = rw (eq-eqb _ _ c.if-n-ne0.false, le-ltb _ _ c.if-n-gt163840.false) (ap not c.good_kernels.ensures)
+unfolding kernels_wrong kernels list_wrong
+returns c = let s = c.args.s.now in rw (kernels_good s 0 (length s / 40)) c.list_wrong.ensures

@@ -1,56 +1,35 @@
 -- `edits::remove` meets its contract: each way out is its outcome's. Assumes nothing.
-use mathlib.Core.Path.{◌≡◌, ◌∙◌}
-use native.Mathlib.Omega.{arith}
-use Rattle.rym1.specs.Causes.{number}
-use Rattle.rym1.specs.File.{grid, place_cause}
-use Rattle.rym1.specs.Edits.{buffers_cause}
-use Rattle.rym1.proofs.Accepted.{accepted, inside}
-use Rattle.edits.specs.Calls.{Sound}
-use Rattle.points.proofs.Refused.{none_found}
-use Rattle.edits.proofs.Judging.{buffers_sound}
-use Rattle.edits.proofs.Removing.{place_judged, way_buffers, way_place, way_rest}
+use mathlib.Core.Path.{sym, ap, ◌∙◌}
+use Rattle.std.proofs.lemmas.Result.{err_from_is_err_and}
+use Rattle.rym1.specs.Causes.{number, judged, told}
+use Rattle.rym1.specs.File.{grid}
+use Rattle.rym1.specs.Journal.{push_cause}
+use Rattle.rym1.proofs.Causes.{number_pos}
+use Rattle.edits.proofs.Removing.{way_empty, way_full, way_rest}
 use Rattle.edits.proofs.remove.Goals as goal
 
-pub returns-then-is_refused : goal.returns-then-is_refused
-returns-then-is_refused c =
-    let cause = c.buffers_cause-cause in
-    way_buffers c.args.file.now c.args.journal.now c.args.x c.args.y c.args.z cause.result cause.ensures c.is_refused.ensures c.if-is_refused.true
+pub returns-in_err-push_cause-in-Ok : goal.returns-in_err-push_cause-in-Ok
+unfolding judged told
+returns-in_err-push_cause-in-Ok c =
+    let a = c.in_ok-working in
+    let f = c.args.file.now in
+    let j = c.args.journal.now in
+    let ok = sym a.ensures.cause in
+    let g = c.grid-g.ensures.value ∙ ap grid a.ensures.same.0 in
+    let own = c.cell_number-c in
+    let rest = way_rest f j c.args.x c.args.y c.args.z ok own.result c.grid-g.result own.ensures.0 g (sym c.in_ok-place_cause.ensures) in
+    let p = err_from_is_err_and c.from_residual-in_err-push_cause-in-Ok.result c.from_residual-in_err-push_cause-in-Ok.ensures.1 in
+    let e = c.in_err-push_cause-in-Ok in
+    rw (p.1, p.2) (way_full f j own.result c.in-Ok.i (rw a.ensures.same.0 at c.in-Ok.ensures) (number e.field-0.0) (e.ensures ∙ ap push_cause a.ensures.same.1) (number_pos e.field-0.0) ∙ rest)
 
-pub grid-g-requires : goal.grid-g-requires
-grid-g-requires c =
-    let judged : buffers_cause c.args.file.now c.args.journal.now ≡ 0 = let buffers = c.buffers_cause-cause in none_found _ buffers.result buffers.ensures c.is_refused.ensures c.if-is_refused.false in
-    let buffers : Sound c.args.file.now c.args.journal.now = buffers_sound _ _ judged in
-    (accepted _ buffers.file).long
-
-pub returns-then-is_refused-2 : goal.returns-then-is_refused-2
-returns-then-is_refused-2 c =
-    let judged : buffers_cause c.args.file.now c.args.journal.now ≡ 0 = let buffers = c.buffers_cause-cause in none_found _ buffers.result buffers.ensures c.is_refused.ensures c.if-is_refused.false in
-    let buffers : Sound c.args.file.now c.args.journal.now = buffers_sound _ _ judged in
-    let same : number c.place_cause-place.result ≡ place_cause (grid c.args.file.now) c.args.x c.args.y c.args.z = place_judged c.args.file.now _ _ _ _ _ c.place_cause-place.ensures (omega (arith, c.grid-g.ensures)) in
-    way_place c.args.file.now c.args.journal.now c.args.x c.args.y c.args.z judged c.place_cause-place.result same c.is_refused-2.ensures c.if-is_refused-2.true
-
-pub cell_number-requires : goal.cell_number-requires
-cell_number-requires c =
-    let judged : buffers_cause c.args.file.now c.args.journal.now ≡ 0 = let buffers = c.buffers_cause-cause in none_found _ buffers.result buffers.ensures c.is_refused.ensures c.if-is_refused.false in
-    let buffers : Sound c.args.file.now c.args.journal.now = buffers_sound _ _ judged in
-    let same : number c.place_cause-place.result ≡ place_cause (grid c.args.file.now) c.args.x c.args.y c.args.z = place_judged c.args.file.now _ _ _ _ _ c.place_cause-place.ensures (omega (arith, c.grid-g.ensures)) in
-    let placed : place_cause (grid c.args.file.now) c.args.x c.args.y c.args.z ≡ 0 = none_found _ c.place_cause-place.result same c.is_refused-2.ensures c.if-is_refused-2.false in
-    let g = c.grid-g in
-    record { grid_few = rw g.ensures (accepted _ buffers.file).grid_few; inside = rw g.ensures (inside _ _ _ _ placed) }
-
-pub remove_cell-requires : goal.remove_cell-requires
-remove_cell-requires c =
-    let judged : buffers_cause c.args.file.now c.args.journal.now ≡ 0 = let buffers = c.buffers_cause-cause in none_found _ buffers.result buffers.ensures c.is_refused.ensures c.if-is_refused.false in
-    let buffers : Sound c.args.file.now c.args.journal.now = buffers_sound _ _ judged in
-    let g = c.grid-g in
-    (buffers, rw g.ensures at c.cell_number.ensures.1)
-
-pub returns : goal.returns
-returns c =
-    let judged : buffers_cause c.args.file.now c.args.journal.now ≡ 0 = let buffers = c.buffers_cause-cause in none_found _ buffers.result buffers.ensures c.is_refused.ensures c.if-is_refused.false in
-    let buffers : Sound c.args.file.now c.args.journal.now = buffers_sound _ _ judged in
-    let same : number c.place_cause-place.result ≡ place_cause (grid c.args.file.now) c.args.x c.args.y c.args.z = place_judged c.args.file.now _ _ _ _ _ c.place_cause-place.ensures (omega (arith, c.grid-g.ensures)) in
-    let placed : place_cause (grid c.args.file.now) c.args.x c.args.y c.args.z ≡ 0 = none_found _ c.place_cause-place.result same c.is_refused-2.ensures c.if-is_refused-2.false in
-    let own = c.cell_number in
-    let g = c.grid-g in
-    c.remove_cell.ensures ∙ way_rest c.args.file.now c.args.journal.now c.args.x c.args.y c.args.z judged own.result (rw g.ensures at own.ensures.0) placed
+pub returns-in-Err : goal.returns-in-Err
+unfolding judged
+returns-in-Err c =
+    let a = c.in_ok-working in
+    let f = c.args.file.now in
+    let j = c.args.journal.now in
+    let ok = sym a.ensures.cause in
+    let g = c.grid-g.ensures.value ∙ ap grid a.ensures.same.0 in
+    let own = c.cell_number-c in
+    let rest = way_rest f j c.args.x c.args.y c.args.z ok own.result c.grid-g.result own.ensures.0 g (sym c.in_ok-place_cause.ensures) in
+    way_empty f j own.result _ (rw a.ensures.same.0 at c.in-Err.ensures) ∙ rest

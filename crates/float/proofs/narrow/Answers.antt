@@ -11,11 +11,11 @@ returns-then-x c = told c.args.x (subst T (sym c.well_formed.0.1) tt) _ (nan_lar
 pub float_to_bits-x : goal.float_to_bits-x
 float_to_bits-x c = equals_itself c.args.x c.if-x.false
 
-pub returns-then-not-is_finite32 : goal.returns-then-not-is_finite32
-returns-then-not-is_finite32 c =
+pub returns-then-not-is_finite : goal.returns-then-not-is_finite
+returns-then-not-is_finite c =
     let p = c.narrow_bits-pattern in
-    let t = c.is_finite32 in
-    told c.args.x (subst T (sym c.well_formed.0.1) tt) _ (pattern_large c.args.x (subst T (sym c.well_formed.0.1) tt) p.result p.ensures t.result t.ensures c.if-not-is_finite32.true)
+    let t = c.is_finite in
+    told c.args.x (subst T (sym c.well_formed.0.1) tt) _ (pattern_large c.args.x (subst T (sym c.well_formed.0.1) tt) p.result p.ensures t.result t.ensures c.if-not-is_finite.true)
 
 pub float_from_bits-result : goal.float_from_bits-result
 float_from_bits-result c =
@@ -25,5 +25,5 @@ float_from_bits-result c =
 pub returns : goal.returns
 returns c =
     let p = c.narrow_bits-pattern in
-    let t = c.is_finite32 in
-    told c.args.x (subst T (sym c.well_formed.0.1) tt) _ (pattern_finite c.args.x (subst T (sym c.well_formed.0.1) tt) p.result p.ensures t.result t.ensures c.if-not-is_finite32.false)
+    let t = c.is_finite in
+    told c.args.x (subst T (sym c.well_formed.0.1) tt) _ (pattern_finite c.args.x (subst T (sym c.well_formed.0.1) tt) p.result p.ensures t.result t.ensures c.if-not-is_finite.false)

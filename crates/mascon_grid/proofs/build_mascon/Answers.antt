@@ -1,65 +1,26 @@
--- `mascon_grid::build_mascon` meets its contract: each return is a way of `Outcomes`. Assumes nothing.
-use mathlib.Core.Path.{ap, ◌∙◌}
-use Rattle.filling.specs.Inside.{padded}
+-- `mascon_grid::build_mascon` meets its contract: past every cause it is what `fill_grid` left; the other refusals the check finds. Assumes nothing.
+use mathlib.Core.Path.{refl, sym, ap, ◌∙◌}
+use Rattle.std.proofs.lemmas.Result.{err_from_is_err_and}
+use Rattle.rym1.specs.Causes.{number, judged, told}
+use Rattle.rym1.proofs.Causes.{number_pos, first_found, refuse_found}
 use Rattle.filling.specs.Frame.{frame}
-use Rattle.rym1.proofs.Accepted.{grid_right}
-use Rattle.points.proofs.Refused.{none_found, some_found}
-use Rattle.mascon_grid.proofs.Outcomes.{way_3, way_17, way_8, way_9, ready, way_19, way_filled}
+use Rattle.filling.specs.Fill.{fill, fill_cause}
+use Rattle.mascon_grid.proofs.Outcomes.{way_filled}
 use Rattle.mascon_grid.proofs.build_mascon.Goals as goal
 
-pub returns-then-is_refused : goal.returns-then-is_refused
-returns-then-is_refused c =
-    let off = c.grid_cause-cause in
-    let args = c.args in
-    way_3 args.g _ _ _ args.target args.density _ _ off.result off.ensures (some_found _ off.result off.ensures c.is_refused.ensures c.if-is_refused.true)
-
-pub returns-then-lists_wrong : goal.returns-then-lists_wrong
-returns-then-lists_wrong c =
-    let off = c.grid_cause-cause in
-    let ok = none_found _ off.result off.ensures c.is_refused.ensures c.if-is_refused.false in
-    let args = c.args in
-    way_17 args.g _ _ _ args.target args.density _ _ ok c.lists_wrong.ensures c.if-lists_wrong.true
-
-pub returns-then-floats-s : goal.returns-then-floats-s
-returns-then-floats-s c =
-    let off = c.grid_cause-cause in
-    let ok = none_found _ off.result off.ensures c.is_refused.ensures c.if-is_refused.false in
-    let args = c.args in
-    way_8 args.g _ _ _ args.target args.density _ _ ok c.lists_wrong.ensures c.if-lists_wrong.false c.if-floats-s.true
-
-pub capacity_of-requires : goal.capacity_of-requires
-capacity_of-requires c =
-    let off = c.grid_cause-cause in
-    (grid_right _ (none_found _ off.result off.ensures c.is_refused.ensures c.if-is_refused.false)).1
-
-pub returns-then-out-capacity_of : goal.returns-then-out-capacity_of
-returns-then-out-capacity_of c =
-    let off = c.grid_cause-cause in
-    let ok = none_found _ off.result off.ensures c.is_refused.ensures c.if-is_refused.false in
-    let args = c.args in
-    way_9 args.g _ _ _ args.target args.density _ _ ok c.lists_wrong.ensures c.if-lists_wrong.false c.if-floats-s.false _ c.capacity_of.ensures c.if-out-capacity_of.true
-
-pub returns-then-box_flat : goal.returns-then-box_flat
-returns-then-box_flat c =
-    let off = c.grid_cause-cause in
-    let ok = none_found _ off.result off.ensures c.is_refused.ensures c.if-is_refused.false in
-    let args = c.args in
-    way_19 args.g _ _ _ args.target args.density _ _ ok c.lists_wrong.ensures c.if-lists_wrong.false c.if-floats-s.false _ c.capacity_of.ensures
-    c.if-out-capacity_of.false _ (c.frame_of-f.ensures ∙ ap (λ b. frame b args.g) c.bounds_of-bounds.ensures) c.box_flat.ensures
-    c.if-box_flat.true
-
-pub fill_frame-requires : goal.fill_frame-requires
-fill_frame-requires c =
-    let off = c.grid_cause-cause in
-    let ok = none_found _ off.result off.ensures c.is_refused.ensures c.if-is_refused.false in
-    let args = c.args in record { ready = ready args.g _ _ _ args.target args.density _ _ ok c.lists_wrong.ensures c.if-lists_wrong.false c.if-floats-s.false _ c.capacity_of.ensures c.if-out-capacity_of.false; boxes = (c.padded-b.ensures ∙ ap padded c.bounds_of-bounds.ensures, c.frame_of-f.ensures ∙ ap (λ b. frame b args.g) c.bounds_of-bounds.ensures) }
+pub returns-in_err-grid_cause : goal.returns-in_err-grid_cause
+unfolding judged told fill fill_cause
+returns-in_err-grid_cause c =
+    let p = err_from_is_err_and c.from_residual.result c.from_residual.ensures.1 in
+    let e = c.in_err-grid_cause in
+    let pos = number_pos e.field-0.0 in
+    rw (p.1, p.2) (rw (← e.ensures, first_found (number e.field-0.0) _ pos, refuse_found (number e.field-0.0) _ _ pos), λ soon. refl)
 
 pub returns : goal.returns
+unfolding judged
 returns c =
-    let left = c.fill_frame.new.out in
-    let off = c.grid_cause-cause in
-    let ok = none_found _ off.result off.ensures c.is_refused.ensures c.if-is_refused.false in
+    let left = c.fill_grid.new.out in
     let args = c.args in
-    way_filled args.g _ _ _ args.target args.density _ _ ok c.lists_wrong.ensures c.if-lists_wrong.false c.if-floats-s.false _ c.capacity_of.ensures
+    way_filled args.g _ _ _ args.target args.density _ _ (sym c.in_ok-grid_cause.ensures) c.lists_wrong.ensures c.if-lists_wrong.false c.if-floats-s.false _ c.capacity_of.ensures
     c.if-out-capacity_of.false _ (c.frame_of-f.ensures ∙ ap (λ b. frame b args.g) c.bounds_of-bounds.ensures) c.box_flat.ensures
-    c.if-box_flat.false _ _ left c.fill_frame.ensures
+    c.if-box_flat.false _ _ left c.fill_grid.ensures

@@ -1,4 +1,4 @@
-use Prim.Native.Nat.{ℕ, ◌≤◌, ◌<◌, ◌-◌, ◌+◌}
+use Prim.Native.Nat.{ℕ, ◌≤◌, ◌<◌, ◌+◌}
 use mathlib.Core.Path.{◌≡◌}
 use mathlib.Core.List.{◌++◌}
 use lib.ListN.{length, get_or}
@@ -7,11 +7,9 @@ use Rattle.row.specs.Row.{region, crossing_up_to}
 use Rattle.row.proofs.at_points.Given as goal
 
 abbrev pub invariant-loop-q : goal.invariant-loop-q
-invariant-loop-q l =
-    (l.q ≤ length l.xs) × (length l.fl ≡ length l.initial.fl) × (length l.counts ≡ length l.initial.counts)
-    × ((p : ℕ) → p < l.q → (get_or l.counts p 0 ≤ get_or l.initial.counts p 0 + 1)
-    × (region l.fl l.counts l.len p ≡ region l.initial.fl l.initial.counts l.len p ++ listed (crossing_up_to l.top l.t l.y l.z l.xs l.ix p)))
-    × ((p : ℕ) → l.q ≤ p → p < length l.xs → (get_or l.counts p 0 ≡ get_or l.initial.counts p 0) × (region l.fl l.counts l.len p ≡ region l.initial.fl l.initial.counts l.len p))
-
-abbrev pub decreases-loop-q : goal.decreases-loop-q
-decreases-loop-q l = length l.xs - l.q
+invariant-loop-q l = record {
+  done : (p : ℕ) → p < l.q → (get_or l.counts p 0 ≤ get_or l.initial.counts p 0 + 1)
+      × (region l.fl l.counts l.len p ≡ region l.initial.fl l.initial.counts l.len p ++ listed (crossing_up_to l.top l.t l.row.y l.row.z l.row.xs.now l.row.ix.now p));
+  rest : (p : ℕ) → l.q ≤ p → p < length l.row.xs.now
+      → (get_or l.counts p 0 ≡ get_or l.initial.counts p 0) × (region l.fl l.counts l.len p ≡ region l.initial.fl l.initial.counts l.len p);
+}

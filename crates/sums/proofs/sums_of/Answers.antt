@@ -1,35 +1,41 @@
--- `sums::sums_of` meets its contract: as `visit_row`, a plane a turn, from no point. Assumes nothing.
-use mathlib.Core.Path.{◌≡◌, refl, ap, ◌∙◌}
+-- `sums::sums_of` meets its contract: the sums so far, with the points to come, are those of the box. Assumes nothing.
+use mathlib.Core.Path.{refl, ap, ◌∙◌}
 use native.Mathlib.Nat.{zero-add}
 use native.Mathlib.Omega.{arith}
 use Rattle.rym1.specs.Cells.{look}
 use Rattle.rtm1.specs.declared.Sums.{Sums}
-use Rattle.rtm1.specs.Visit.{nothing, plane, visit}
-use Rattle.rtm1.specs.Tree.{sums_of}
+use Rattle.rtm1.specs.Visit.{nothing, visit}
 use Rattle.rtm1.proofs.Visit.{total_count}
-use Rattle.sums.proofs.Turns.{Rest, sums_turn, sums_end}
-use Rattle.runs.proofs.Runs.{grid_few}
+use Rattle.runs.proofs.Runs.{grid_few, length_placed}
+use Rattle.runs.proofs.Stepped.{first_points, in_file, same_file}
+use Rattle.runs.specs.Walk.{left, points_of}
+use Rattle.sums.proofs.Turns.{sums_on, sums_fit, sums_end}
 use Rattle.sums.proofs.sums_of.Goals as goal
 
-pub loop-z-init : goal.loop-z-init
-loop-z-init c = (omega arith, omega (arith, c.requires.within.proper.in_z), omega arith, refl)
-
-pub visit_plane-t-requires : goal.visit_plane-t-requires
-visit_plane-t-requires c =
-    let none = ap (λ (t : Sums). t.count) c.nothing-t.ensures in
-    record { ready = c.requires.ready; within = c.requires.within; in_grid = (omega (arith, c.loop-z-test.true, c.requires.within.to_z), omega (arith, none, grid_few c.requires.ready, c.requires.within.to_z)) }
-
-pub loop-z-preserved : goal.loop-z-preserved
-loop-z-preserved c =
+pub add_records-t-requires-clause-room : goal.add_records-t-requires-clause-room
+add_records-t-requires-clause-room c =
     let a = c.args in
-    let l = c.loop-z in
-    (omega arith, omega arith, omega arith, sums_turn (plane (look a.file.now) a.g a.b) a.b.z1 l.z l.t c.visit_plane-t.result _ c.loop-z-test.true c.visit_plane-t.ensures.value l.invariant.3)
+    let l = c.loop-r in
+    let p = c.in-Some.r in
+    let f = a.lookup.now.file.now in
+    let first = first_points f l.r-iterator c.next.new.self p l.invariant.2 c.in-Some.ensures.steps in
+    let fit = sums_fit l.t _ (left l.r-iterator) (points_of f p) (left c.next.new.self) first l.invariant.3 (look f) a.lookup.now.g a.b refl c.requires (grid_few a.lookup.now.ready) in
+    (in_file f l.r-iterator c.next.new.self p l.invariant.2 c.in-Some.ensures.steps, omega (arith, fit, length_placed f p.z p.y p.index p.count))
 
-pub returns : goal.returns
-returns c =
+pub loop-r-preserved : goal.loop-r-preserved
+loop-r-preserved c =
     let a = c.args in
-    let l = c.loop-z in
-    let f = plane (look a.file.now) a.g a.b in
-    let all : l.t ≡ sums_of (look a.file.now) a.g a.b =
-    sums_end f a.b.z1 l.z l.t _ c.loop-z-test.false l.invariant.3 ∙ ap (Rest f a.b.z1 a.b.z0) c.nothing-t.ensures in
-    record { value = all; counted = ap (λ (t : Sums). t.count) all ∙ (total_count nothing (visit (look a.file.now) a.g a.b) ∙ zero-add _) }
+    let l = c.loop-r in
+    let p = c.in-Some.r in
+    let f = a.lookup.now.file.now in
+    let first = first_points f l.r-iterator c.next.new.self p l.invariant.2 c.in-Some.ensures.steps in
+    (tt, tt, same_file f l.r-iterator c.next.new.self p l.invariant.2 c.in-Some.ensures.steps, sums_on l.t _ _ _ _ first l.invariant.3 c.add_records-t.result c.add_records-t.ensures)
+
+pub returns-clause-value : goal.returns-clause-value
+returns-clause-value c = sums_end c.loop-r.t _ _ c.in-None.ensures.steps.step c.loop-r.invariant.3
+
+pub returns-clause-counted : goal.returns-clause-counted
+returns-clause-counted c =
+    let a = c.args in
+    let all = sums_end c.loop-r.t _ _ c.in-None.ensures.steps.step c.loop-r.invariant.3 in
+    ap (λ (t : Sums). t.count) all ∙ (total_count nothing (visit (look a.lookup.now.file.now) a.lookup.now.g a.b) ∙ zero-add _)

@@ -1,14 +1,11 @@
-use Prim.Native.Nat.{◌+◌, ◌-◌, ◌*◌, ◌≤◌}
 use mathlib.Core.Path.{◌≡◌}
 use Rattle.rym1.specs.Cells.{look}
-use Rattle.rtm1.specs.Visit.{plane}
-use Rattle.sums.proofs.Turns.{Rest}
+use Rattle.rtm1.specs.Visit.{total, nothing, visit}
+use Rattle.runs.specs.Walk.{file_of, left}
 use Rattle.sums.proofs.sums_of.Given as goal
 
-abbrev pub invariant-loop-z : goal.invariant-loop-z
-invariant-loop-z l =
-    (l.initial.z ≤ l.z) × (l.z ≤ l.end) × (l.t.count ≤ l.initial.t.count + 65536 * (l.z - l.initial.z))
-    × (Rest (plane (look l.file) l.g l.b) l.end l.z l.t ≡ Rest (plane (look l.file) l.g l.b) l.end l.initial.z l.initial.t)
-
-abbrev pub decreases-loop-z : goal.decreases-loop-z
-decreases-loop-z l = l.end - l.z
+abbrev pub invariant-loop-r : goal.invariant-loop-r
+invariant-loop-r l =
+    (goal.iterator-loop-r).can_next l.r-iterator × (goal.iterator-loop-r).is_finite l.r-iterator
+    × (file_of l.r-iterator ≡ l.lookup.file.now)
+    × (total l.t (left l.r-iterator) ≡ total nothing (visit (look l.lookup.file.now) l.lookup.g l.fn.b))

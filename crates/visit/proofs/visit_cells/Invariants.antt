@@ -1,4 +1,3 @@
-use Prim.Native.Nat.{◌-◌, ◌≤◌}
 use mathlib.Core.Path.{◌≡◌}
 use lib.ListN.{length}
 use Rattle.filling.specs.Lists.{mesh, kernels}
@@ -7,7 +6,5 @@ use Rattle.visit.proofs.visit_cells.Given as goal
 
 abbrev pub invariant-loop-c : goal.invariant-loop-c
 invariant-loop-c l =
-    (l.c ≤ l.cells) × (length l.floats ≡ length l.initial.floats) × Visited-so-far (mesh l.triangles) l.f l.g (kernels l.cauchy) (kernels l.elliptic) l.initial.out l.c l.w l.out
-
-abbrev pub decreases-loop-c : goal.decreases-loop-c
-decreases-loop-c l = l.cells - l.c
+    let t = l.grid in
+    (length l.floats ≡ length l.initial.floats) × Visited-so-far (mesh t.mesh.bytes.now) t.f t.g (kernels t.cauchy.now) (kernels t.elliptic.now) l.initial.out l.c l.w l.out

@@ -7,10 +7,10 @@ use Rattle.mascon_grid.proofs.ScalingLoops.{scaling_start, scaling_stop, scaling
 use Rattle.mascon_grid.proofs.scaling.scale_masses.Goals as goal
 
 pub loop-i-init : goal.loop-i-init
-loop-i-init c = let a = c.args in (omega arith, refl, scaling_start a.out.now a.k a.l a.n)
+loop-i-init c = let a = c.args in (refl, scaling_start a.out.now a.k a.l a.n)
 
 pub shape_of-out-then-not-are_fine : goal.shape_of-out-then-not-are_fine
-shape_of-out-then-not-are_fine c = c.loop-i.invariant.1
+shape_of-out-then-not-are_fine c = c.loop-i.invariant.0
 
 pub returns-then-not-are_fine : goal.returns-then-not-are_fine
 returns-then-not-are_fine c =
@@ -18,7 +18,7 @@ returns-then-not-are_fine c =
     let loop = c.loop-i in
     let p = c.scaled_point-p in
     let bad = sym c.are_fine.ensures ∙ c.if-not-are_fine.true in
-    (scaling_stop a.out.now loop.out a.k a.l a.n loop.i p.result (omega arith) (p.ensures ∙ ap (scaled_point a.k a.l) c.point_at.ensures) loop.invariant.2 bad, λ e. absurd (true≢false (sym e)))
+    (scaling_stop a.out.now loop.out a.k a.l a.n loop.i p.result (omega arith) (p.ensures ∙ ap (scaled_point a.k a.l) c.point_at.ensures) loop.invariant.1 bad, λ e. absurd (true≢false (sym e)))
 
 pub loop-i-preserved : goal.loop-i-preserved
 loop-i-preserved c =
@@ -27,17 +27,16 @@ loop-i-preserved c =
     let p = c.scaled_point-p in
     let wrote = c.out_point in
     let good = sym c.are_fine.ensures ∙ c.if-not-are_fine.false in (
-      omega arith,
-      wrote.auto.file ∙ loop.invariant.1,
-      scaling_turn a.out.now loop.out a.k a.l a.n loop.i p.result (omega arith) (p.ensures ∙ ap (scaled_point a.k a.l) c.point_at.ensures) loop.invariant.2 (omega arith) good wrote.new.file wrote.ensures,
+      wrote.auto.file ∙ loop.invariant.0,
+      scaling_turn a.out.now loop.out a.k a.l a.n loop.i p.result (omega arith) (p.ensures ∙ ap (scaled_point a.k a.l) c.point_at.ensures) loop.invariant.1 (omega arith) good wrote.new.file wrote.ensures,
     )
 
 pub shape_of-out : goal.shape_of-out
-shape_of-out c = c.loop-i.invariant.1
+shape_of-out c = c.loop-i.invariant.0
 
 pub returns : goal.returns
 returns c =
     let a = c.args in
     let loop = c.loop-i in
-    let end = scaling_end a.out.now loop.out a.k a.l a.n loop.i (omega arith) loop.invariant.2 in
+    let end = scaling_end a.out.now loop.out a.k a.l a.n loop.i (omega arith) loop.invariant.1 in
     (end.0, λ e. end.1)

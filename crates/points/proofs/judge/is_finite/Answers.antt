@@ -6,4 +6,4 @@ use Rattle.points.proofs.judge.is_finite.Goals as goal
 
 pub returns : goal.returns
 unfolding finite
-returns c = rw (lt-ltb c.args.pattern 4294967296 (omega arith)) c.is_finite32.ensures
+returns c = rw (lt-ltb c.args.pattern 4294967296 (omega arith)) c.is_finite.ensures

@@ -1,12 +1,11 @@
--- `ray::quick::skips` meets its contract: the quick test answers for the ray's. Assumes nothing.
-use mathlib.Core.Path.{sym, ◌∙◌}
-use mathlib.Core.Bool.{true≢false}
-use Rattle.ray.proofs.QuickLaws.{quick_misses}
+-- `ray::quick::skips` meets its contract: its point is one of the row's. Assumes nothing.
+use Rattle.filling.proofs.Lists.{coordinates_up_to}
 use Rattle.ray.proofs.quick.skips.Goals as goal
 
-pub returns-then-not-near : goal.returns-then-not-near
-returns-then-not-near c = λ e. absurd (true≢false (sym e))
+pub skips_row-requires-clause-within : goal.skips_row-requires-clause-within
+skips_row-requires-clause-within c =
+    λ e. let each = coordinates_up_to _ _ (c.requires.within e) in (each.1, each.2)
 
 pub returns : goal.returns
 returns c =
-    λ e. quick_misses c.args.origin _ c.requires.good.1 (c.requires.within c.if-not-near.false) (sym c.quick_miss.ensures ∙ e)
+    λ e. let row = c.skips_row.ensures e in row.1 _ (coordinates_up_to _ _ (c.requires.within row.0)).0

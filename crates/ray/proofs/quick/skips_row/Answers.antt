@@ -1,14 +1,10 @@
 -- `ray::quick::skips_row` meets its contract: the quick test knows no x, and answers for the ray's at each. Assumes nothing.
 use mathlib.Core.Path.{sym, ◌∙◌}
-use mathlib.Core.Bool.{true≢false}
 use Rattle.ray.proofs.QuickLaws.{row_misses}
 use Rattle.ray.proofs.quick.skips_row.Goals as goal
-
-pub returns : goal.returns
-returns c = λ e. absurd (true≢false (sym e))
 
 pub returns-then-near : goal.returns-then-near
 returns-then-near c =
     let yes = c.if-near.true in
     let near = c.requires.within yes in
-    λ e. (yes, λ x h. row_misses x _ c.args.y c.args.z _ c.requires.good.1 near.0 near.1 h (sym c.quick_miss.ensures ∙ e))
+    λ e. (yes, λ x h. row_misses x _ c.args.y c.args.z _ c.requires.good near.0 near.1 h (sym c.quick_miss.ensures ∙ e))

@@ -1,32 +1,42 @@
--- `sums::ordered::out_order` meets its contract: as `out_row`, a plane a turn. Assumes nothing.
+-- `sums::ordered::out_order` meets its contract: what stands, with the points to come, is the box's order. Assumes nothing.
 use native.Mathlib.Omega.{arith}
 use Rattle.rym1.specs.Cells.{look}
-use Rattle.rtm1.specs.Visit.{plane}
-use Rattle.sums.proofs.Order.{storing_start, storing_room, storing_turn, storing_end}
+use Rattle.rtm1.specs.Visit.{visit}
+use Rattle.runs.proofs.Runs.{length_placed}
+use Rattle.runs.proofs.Stepped.{first_points, same_file}
+use Rattle.runs.specs.Walk.{left, points_of}
+use Rattle.sums.proofs.Order.{room_on, storing_on, storing_end, records_ordered}
 use Rattle.sums.proofs.ordered.out_order.Goals as goal
 
-pub loop-z-init : goal.loop-z-init
-loop-z-init c = (omega (arith, c.requires.within.proper.in_z), storing_start _ _ _ _ _)
-
-pub out_plane-at-requires : goal.out_plane-at-requires
-out_plane-at-requires c =
+pub out_records-at-requires : goal.out_records-at-requires
+out_records-at-requires c =
     let a = c.args in
-    let l = c.loop-z in
-    let room = storing_room (plane (look a.file.now) a.g a.b) a.b.z1 a.out.now a.from a.b.z0 c.requires.room l.out l.at l.z c.loop-z-test.true l.invariant.1 in
-    record { ready = c.requires.ready; within = c.requires.within; in_grid = omega (arith, c.loop-z-test.true, c.requires.within.to_z); room = room }
+    let l = c.loop-r in
+    let p = c.in-Some.r in
+    let f = a.lookup.now.file.now in
+    let first = first_points f l.r-iterator c.next.new.self p l.invariant.2 c.in-Some.ensures.steps in
+    let room = room_on (visit (look f) a.lookup.now.g a.b) a.out.now a.from c.requires.room l.out l.at (left l.r-iterator) (points_of f p) (left c.next.new.self) first l.invariant.3 in
+    omega (arith, room, length_placed f p.z p.y p.index p.count)
 
-pub loop-z-preserved : goal.loop-z-preserved
-loop-z-preserved c =
+pub loop-r-preserved : goal.loop-r-preserved
+loop-r-preserved c =
     let a = c.args in
-    let l = c.loop-z in
-    let p = c.out_plane-at in
-    (omega arith, storing_turn (plane (look a.file.now) a.g a.b) a.b.z1 a.out.now a.from a.b.z0 c.requires.room l.out p.new.out l.at p.result l.z c.loop-z-test.true p.ensures l.invariant.1)
+    let l = c.loop-r in
+    let p = c.in-Some.r in
+    let w = c.out_records-at in
+    let f = a.lookup.now.file.now in
+    let first = first_points f l.r-iterator c.next.new.self p l.invariant.2 c.in-Some.ensures.steps in (
+      tt,
+      tt,
+      same_file f l.r-iterator c.next.new.self p l.invariant.2 c.in-Some.ensures.steps,
+      storing_on (visit (look f) a.lookup.now.g a.b) a.out.now a.from c.requires.room l.out l.at _ _ _ first l.invariant.3
+          w.new.out w.result (records_ordered f p.z p.y p.index p.count l.out w.new.out l.at w.result w.ensures.0 w.ensures.1),
+    )
 
 pub shape_of-out : goal.shape_of-out
-shape_of-out c = c.loop-z.invariant.1.long
+shape_of-out c = c.loop-r.invariant.3.long
 
 pub returns : goal.returns
 returns c =
     let a = c.args in
-    let l = c.loop-z in
-    storing_end (plane (look a.file.now) a.g a.b) a.b.z1 a.out.now a.from a.b.z0 l.out l.at l.z c.loop-z-test.false l.invariant.1
+    storing_end (visit (look a.lookup.now.file.now) a.lookup.now.g a.b) a.out.now a.from _ c.loop-r.out c.loop-r.at c.in-None.ensures.steps.step c.loop-r.invariant.3

@@ -1,8 +1,0 @@
--- `float::pattern::is_nan64` meets its contract: a NaN's pattern lies above the infinity's, the sign aside. Assumes nothing.
-use mathlib.Core.Path.{sym}
-use lib.Ieee.{binary64}
-use lib.Ieee.Bits.{nan_bits_above}
-use Rattle.float.proofs.pattern.is_nan64.Goals as goal
-
-pub returns : goal.returns
-returns c = sym (nan_bits_above binary64 c.args.b)
