@@ -120,12 +120,3 @@ pub fn candidate(b: Bounds, at: Indices, t: Triangle) -> bool
     let own = ranges_of(b, t);
     reached(at, own.low, own.high)
 }
-
-// The upper end of its range on x alone.
-#[tactic(auto, unfolding(filling::specs::Inside::high_of, filling::specs::Inside::indices, filling::specs::Inside::bounds, filling::specs::Inside::bounds_from))]
-pub fn upper_x(b: Bounds, t: Triangle) -> u32
-    ensures { result ≡ (def.high_of b t).i }
-{
-    let own = with_triangle(unbounded(), t);
-    axis_index(scaled(b.min.x, b.max.x, own.max.x))
-}

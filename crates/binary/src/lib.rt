@@ -7,7 +7,7 @@ ghost use Rattle.std.specs.Float.Ieee.{of_bits, nan_bits};
 ghost use Rattle.binary.specs.Words.{Narrowing};
 ghost use Rattle.rym1.specs.Bytes.{word16, word32, word64, le32, le64, words_bytes, splice};
 
-use float::pattern::f32_to_bits;
+use std::num::f32_to_bits_with_nan;
 
 pub fn u16_at(s: &[u8], at: usize) -> u32
     requires { at + 2 ≤ length s.now }
@@ -27,9 +27,16 @@ pub fn u64_at(s: &[u8], at: usize) -> u64
     requires { at + 8 ≤ length s.now }
     ensures { result ≡ word64 s.now at }
 {
-    let low = u32_at(s, at) as u64;
-    let high = u32_at(s, at + 4) as u64;
-    low + 4294967296 * high
+    u64::from_le_bytes([
+        s[at],
+        s[at + 1],
+        s[at + 2],
+        s[at + 3],
+        s[at + 4],
+        s[at + 5],
+        s[at + 6],
+        s[at + 7],
+    ])
 }
 
 // The number of a binary64's pattern. Each NaN's pattern gives the NaN.
@@ -37,10 +44,10 @@ pub fn f64_at(s: &[u8], at: usize) -> f64
     requires { at + 8 ≤ length s.now }
     ensures { result ≡ of_bits binary64 (word64 s.now at) }
 {
-    float::pattern::f64_from_bits(u64_at(s, at))
+    std::num::f64_from_bits_with_nan(u64_at(s, at))
 }
 
-// The same of a pattern that is no NaN's.
+// The same of a pattern that is no NaN's. `f64_at`'s test for a NaN would cost a filling a third more time (docs/BENCHMARKS.md).
 pub fn number_at(s: &[u8], at: usize) -> f64
     requires { (at + 8 ≤ length s.now) × (nan_bits binary64 (word64 s.now at) ≡ false) }
     ensures { result ≡ of_bits binary64 (word64 s.now at) }
@@ -52,21 +59,14 @@ pub fn out_u32(s: &mut [u8], at: usize, value: u32)
     requires { at + 4 ≤ length s.old }
     ensures { s.new ≡ splice s.old at (le32 value) }
 {
-    let [a, b, c, d] = value.to_le_bytes();
-    s[at] = a;
-    s[at + 1] = b;
-    s[at + 2] = c;
-    s[at + 3] = d;
+    s[at..at + 4].copy_from_slice(&value.to_le_bytes());
 }
 
 pub fn out_u64(s: &mut [u8], at: usize, value: u64)
     requires { at + 8 ≤ length s.old }
     ensures { s.new ≡ splice s.old at (le64 value) }
 {
-    let low = value % 4294967296;
-    let high = value / 4294967296;
-    out_u32(s, at, low as u32);
-    out_u32(s, at + 4, high as u32);
+    s[at..at + 8].copy_from_slice(&value.to_le_bytes());
 }
 
 // The words of some numbers; none where one is too large, and up to that one they are written.
@@ -78,7 +78,7 @@ pub fn narrow_all(xs: &[f64], words: &mut [u32]) -> Option<()>
         let Some(v) = float::narrow(xs[i]) else {
             return None;
         };
-        words[i] = f32_to_bits(v);
+        words[i] = f32_to_bits_with_nan(v);
     }
     Some(())
 }
@@ -91,11 +91,4 @@ pub fn out_words<const N: usize>(out: &mut [u8], at: usize, words: [u32; N])
     for i in 0..N {
         out_u32(out, at + 4 * i, words[i]);
     }
-}
-
-// Zeros, the whole slice.
-pub fn clear(s: &mut [u8])
-    ensures { s.new ≡ replicate (length s.old) 0 }
-{
-    s.fill(0);
 }

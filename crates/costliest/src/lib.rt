@@ -14,9 +14,8 @@ ghost use Rattle.rtm1.proofs.Full.{Alike};
 ghost use Rattle.costliest.specs.Every.{every};
 
 use boxes::{Pair, halves, kind_of, whole};
-use lookup::cells;
 use points::judge::grid_cause;
-use points::records::out_point;
+use points::records::{cells, out_point};
 use rtm1::{Cells, Cost, Kind};
 use rym1::{Cause, Point};
 
@@ -92,7 +91,7 @@ pub fn costliest(g: u32) -> Result<Cost, Cause>
     })
 }
 
-// The header's words.
+// The header's words. Of g, here and below: points/records.rt.
 #[tactic(auto, unfolding(rtm1::specs::Costliest::costliest_header))]
 fn header_words(g: u32) -> [u32; 16]
     requires { g ≤ 256 }

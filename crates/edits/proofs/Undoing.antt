@@ -78,16 +78,16 @@ module _ (f j : List ℕ) (e : Entry) where
             let same : t ≡ size (count (removed f i)) = omega (arith, et, en, fewer) in
             rw (rest_is l (held i _) false spot.1 right, k) (λ m. outcome (same m) (both (ef m) (ej m)))
 
-        pub way_restored : (e.kind ≡ 3 → ⊥) → (e.kind ≡ 1 → ⊥) → (g : ℕ) (p : Point) → g ≡ grid f
+        pub way_restored : e.kind ≡ 2 → (g : ℕ) (p : Point) → g ≡ grid f
             → p ≡ cell_point g e.cell (record { cauchy = e.cauchy; elliptic = e.elliptic }) → f' ≡ splice f (64 + 16 * i) (point_bytes p) → t ≡ 64 + 16 * n
             → outcome t (both f' j') ≡ undo_rest f j
         unfolding when first refuse against room_cause is_vacant edited changed before size
-        way_restored k3 k1 g p eg ep ef et =
+        way_restored k g p eg ep ef et =
             let new : List ℕ = point_bytes (cell_point (grid f) e.cell (record { cauchy = e.cauchy; elliptic = e.elliptic })) in
             let file : f' ≡ splice f (64 + 16 * i) new = ef ∙ ap (λ (q : Point). splice f (64 + 16 * i) (point_bytes q)) (rw eg at ep) in
             let there = count_replaced f i new (omega (arith, spot.0, (accepted f s.file).room)) in
             let same : t ≡ size (count (splice f (64 + 16 * i) new)) = omega (arith, et, en, there) in
-            rw (rest_is l (held i _) false spot.1 right, ne_eqb e.kind 3 k3, ne_eqb e.kind 1 k1) (λ m. outcome (same m) (both (file m) (ej m)))
+            rw (rest_is l (held i _) false spot.1 right, k) (λ m. outcome (same m) (both (file m) (ej m)))
 
     -- the cell is empty, i records before it
     module _ (spot : Spotted f e.cell (Err i)) where

@@ -12,15 +12,14 @@ ghost use Rattle.rym1.specs.Open.{both};
 ghost use Rattle.rym1.specs.Journal.{push_cause};
 ghost use Rattle.rym1.specs.Edits.{buffers_cause};
 ghost use Rattle.rym1.specs.Edits as edits;
-ghost use Rattle.journal.specs.Entry.{said};
+ghost use Rattle.journal.specs.Entry.{number, said};
 ghost use Rattle.working.specs.Spotted.{Spotted};
 ghost use Rattle.edits.specs.Calls.{Sound, Last, entry_wrong, put_rest, remove_rest, undo_rest};
 
-use journal::{Entry, Journal, journal_cause, pop, push};
-use lookup::cells;
+use journal::{Entry, Journal, Kind, journal_cause, pop, push};
 use points::file::WorkingFile;
 use points::judge::{is_finite, parse_mascon_bytes, place_cause, point_cause, work_cause};
-use points::records::{cell_number, cell_point, count, grid, out_point};
+use points::records::{cell_number, cell_point, cells, count, grid, out_point};
 use rym1::{Cause, Point};
 use working::find::find_cell;
 use working::moves::{insert_point, remove_point};
@@ -43,7 +42,7 @@ fn buffers_cause<'a>(
 // ---- put
 
 // Over the record at index i.
-#[tactic(auto, using(crate::proofs::Rooms::sizes), unfolding(rym1::specs::File::size))]
+#[tactic(auto, using(crate::proofs::Rooms::sizes), unfolding(journal::specs::Entry::number, rym1::specs::File::size))]
 fn put_over(file: &mut [u8], journal: &mut [u32], c: u32, i: u32, p: Point) -> Result<u64, Cause>
     requires sound { Sound file.old journal.old }
     requires free { push_cause journal.old ≡ 0 }
@@ -57,12 +56,12 @@ fn put_over(file: &mut [u8], journal: &mut [u32], c: u32, i: u32, p: Point) -> R
     let cauchy = binary::u32_at(file, at + 8);
     let elliptic = binary::u32_at(file, at + 12);
     out_point(file, at, p);
-    push(journal, Entry::new(Entry::REPLACED, c, cauchy, elliptic));
+    push(journal, Entry::new(Kind::Replaced, c, cauchy, elliptic));
     Ok(64 + 16 * n as u64)
 }
 
 // Into an empty cell, i records before it.
-#[tactic(auto, using(crate::proofs::Rooms::sizes, crate::proofs::Putting::put_new_full, crate::proofs::Putting::put_new_done), unfolding(rym1::specs::File::size, rym1::specs::Causes::told))]
+#[tactic(auto, using(crate::proofs::Rooms::sizes, crate::proofs::Putting::put_new_full, crate::proofs::Putting::put_new_done), unfolding(journal::specs::Entry::number, rym1::specs::File::size, rym1::specs::Causes::told))]
 fn put_new(file: &mut [u8], journal: &mut [u32], c: u32, i: u32, p: Point) -> Result<u64, Cause>
     requires sound { Sound file.old journal.old }
     requires free { push_cause journal.old ≡ 0 }
@@ -76,7 +75,7 @@ fn put_new(file: &mut [u8], journal: &mut [u32], c: u32, i: u32, p: Point) -> Re
         return Err(Cause::BufferFull);
     }
     insert_point(file, i, p);
-    push(journal, Entry::new(Entry::ADDED, c, 0, 0));
+    push(journal, Entry::new(Kind::Added, c, 0, 0));
     Ok(64 + 16 * (n + 1) as u64)
 }
 
@@ -99,8 +98,8 @@ pub fn put(
         y,
         z,
         pad: 0,
-        cauchy: float::pattern::f32_to_bits(cauchy),
-        elliptic: float::pattern::f32_to_bits(elliptic),
+        cauchy: std::num::f32_to_bits_with_nan(cauchy),
+        elliptic: std::num::f32_to_bits_with_nan(elliptic),
     };
     let (working, past) = buffers_cause(file, journal)?;
     let g = working.file.grid();
@@ -116,7 +115,7 @@ pub fn put(
 // ---- remove
 
 // The record at index i.
-#[tactic(auto, using(crate::proofs::Rooms::sizes, crate::proofs::Removing::way_removed), unfolding(rym1::specs::File::size, rym1::specs::Causes::told))]
+#[tactic(auto, using(crate::proofs::Rooms::sizes, crate::proofs::Removing::way_removed), unfolding(journal::specs::Entry::number, rym1::specs::File::size, rym1::specs::Causes::told))]
 fn remove_held(file: &mut [u8], journal: &mut [u32], c: u32, i: u32) -> Result<u64, Cause>
     requires sound { Sound file.old journal.old }
     requires free { push_cause journal.old ≡ 0 }
@@ -129,7 +128,7 @@ fn remove_held(file: &mut [u8], journal: &mut [u32], c: u32, i: u32) -> Result<u
     let cauchy = binary::u32_at(file, at + 8);
     let elliptic = binary::u32_at(file, at + 12);
     remove_point(file, i);
-    push(journal, Entry::new(Entry::REMOVED, c, cauchy, elliptic));
+    push(journal, Entry::new(Kind::Removed, c, cauchy, elliptic));
     Ok(64 + 16 * (n - 1) as u64)
 }
 
@@ -153,67 +152,85 @@ pub fn remove(file: &mut [u8], journal: &mut [u32], x: u32, y: u32, z: u32) -> R
 
 // ---- undo
 
-// 16, but for the cell's state.
-#[tactic(auto, unfolding(crate::specs::Calls::entry_wrong, rym1::specs::Causes::judged, rym1::specs::Causes::number, rym1::specs::Causes::when))]
-fn entry_cause(g: u32, entry: Entry) -> Result<(), Cause>
+// 16, but for the cell's state; or the entry's kind. Of g: points/records.rt.
+#[tactic(auto, unfolding(crate::specs::Calls::entry_wrong, journal::specs::Entry::kind_number, journal::specs::Entry::number, rym1::specs::Causes::judged, rym1::specs::Causes::number, rym1::specs::Causes::when))]
+fn entry_cause(g: u32, entry: Entry) -> Result<Kind, Cause>
     requires { g ≤ 256 }
-    ensures { judged result ≡ when (entry_wrong g (said entry)) 16 }
+    ensures cause { judged result ≡ when (entry_wrong g (said entry)) 16 }
+    ensures kind { IfOk result (λ k. number k ≡ (said entry).kind) }
 {
-    let kind = entry.kind();
-    if kind == 0 || entry.gap() != 0 || cells(g) <= entry.cell() as usize {
+    let kind = entry.kind().ok_or(Cause::EntryWrong)?;
+    if entry.gap() != 0 || cells(g) <= entry.cell() as usize {
         return Err(Cause::EntryWrong);
     }
-    if kind == Entry::ADDED || is_finite(entry.cauchy) && is_finite(entry.elliptic) {
-        return Ok(());
+    if kind == Kind::Added || is_finite(entry.cauchy) && is_finite(entry.elliptic) {
+        return Ok(kind);
     }
     Err(Cause::EntryWrong)
 }
 
 // The cell holds the record at index i: a put is undone.
-#[tactic(auto, using(crate::proofs::Rooms::sizes, crate::proofs::Undoing::way_held, crate::proofs::Undoing::way_emptied), unfolding(rym1::specs::File::size, rym1::specs::Causes::told))]
-fn undo_held(file: &mut [u8], journal: &mut [u32], entry: Entry, i: u32) -> Result<u64, Cause>
+#[tactic(auto, using(crate::proofs::Rooms::sizes, crate::proofs::Undoing::way_held, crate::proofs::Undoing::way_emptied), unfolding(journal::specs::Entry::number, rym1::specs::File::size, rym1::specs::Causes::told))]
+fn undo_held(
+    file: &mut [u8],
+    journal: &mut [u32],
+    kind: Kind,
+    entry: Entry,
+    i: u32,
+) -> Result<u64, Cause>
     requires sound { Sound file.old journal.old }
     requires last { Last journal.old (said entry) }
     requires spotted { Spotted file.old (said entry).cell (Ok i) }
     requires right { entry_wrong (grid file.old) (said entry) ≡ false }
+    requires kind { number kind ≡ (said entry).kind }
     ensures { outcome (told result) (both file.new journal.new) ≡ undo_rest file.old journal.old }
 {
     let n = count(file);
-    let kind = entry.kind();
-    if kind == Entry::REMOVED {
-        return Err(Cause::EntryWrong);
+    match kind {
+        Kind::Added => {
+            remove_point(file, i);
+            pop(journal);
+            Ok(64 + 16 * (n - 1) as u64)
+        }
+        Kind::Replaced => {
+            let p = cell_point(grid(file), entry.cell(), entry.cauchy, entry.elliptic);
+            out_point(file, 64 + 16 * i as usize, p);
+            pop(journal);
+            Ok(64 + 16 * n as u64)
+        }
+        Kind::Removed => Err(Cause::EntryWrong),
     }
-    if kind == Entry::ADDED {
-        remove_point(file, i);
-        pop(journal);
-        return Ok(64 + 16 * (n - 1) as u64);
-    }
-    let p = cell_point(grid(file), entry.cell(), entry.cauchy, entry.elliptic);
-    out_point(file, 64 + 16 * i as usize, p);
-    pop(journal);
-    Ok(64 + 16 * n as u64)
 }
 
 // The cell is empty, i records before it: a removal is undone.
-#[tactic(auto, using(crate::proofs::Rooms::sizes, crate::proofs::Undoing::way_vacant, crate::proofs::Undoing::way_full), unfolding(rym1::specs::File::size, rym1::specs::Causes::told))]
-fn undo_vacant(file: &mut [u8], journal: &mut [u32], entry: Entry, i: u32) -> Result<u64, Cause>
+#[tactic(auto, using(crate::proofs::Rooms::sizes, crate::proofs::Undoing::way_vacant, crate::proofs::Undoing::way_full), unfolding(journal::specs::Entry::number, rym1::specs::File::size, rym1::specs::Causes::told))]
+fn undo_vacant(
+    file: &mut [u8],
+    journal: &mut [u32],
+    kind: Kind,
+    entry: Entry,
+    i: u32,
+) -> Result<u64, Cause>
     requires sound { Sound file.old journal.old }
     requires last { Last journal.old (said entry) }
     requires spotted { Spotted file.old (said entry).cell (Err i) }
     requires right { entry_wrong (grid file.old) (said entry) ≡ false }
+    requires kind { number kind ≡ (said entry).kind }
     ensures { outcome (told result) (both file.new journal.new) ≡ undo_rest file.old journal.old }
 {
     let n = count(file);
-    if entry.kind() != Entry::REMOVED {
-        return Err(Cause::EntryWrong);
+    match kind {
+        Kind::Added | Kind::Replaced => Err(Cause::EntryWrong),
+        Kind::Removed => {
+            if file.len() < 80 + 16 * n as usize {
+                return Err(Cause::BufferFull);
+            }
+            let p = cell_point(grid(file), entry.cell(), entry.cauchy, entry.elliptic);
+            insert_point(file, i, p);
+            pop(journal);
+            Ok(64 + 16 * (n + 1) as u64)
+        }
     }
-    if file.len() < 80 + 16 * n as usize {
-        return Err(Cause::BufferFull);
-    }
-    let p = cell_point(grid(file), entry.cell(), entry.cauchy, entry.elliptic);
-    insert_point(file, i, p);
-    pop(journal);
-    Ok(64 + 16 * (n + 1) as u64)
 }
 
 // Undo: the last put or remove that is not undone.
@@ -226,9 +243,9 @@ pub fn undo(file: &mut [u8], journal: &mut [u32]) -> Result<u64, Cause>
         return Err(Cause::NoEntry);
     }
     let entry = past.last();
-    entry_cause(working.file.grid(), entry)?;
+    let kind = entry_cause(working.file.grid(), entry)?;
     match find_cell(working, entry.cell()) {
-        Ok(i) => undo_held(file, journal, entry, i),
-        Err(i) => undo_vacant(file, journal, entry, i),
+        Ok(i) => undo_held(file, journal, kind, entry, i),
+        Err(i) => undo_vacant(file, journal, kind, entry, i),
     }
 }

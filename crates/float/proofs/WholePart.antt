@@ -10,7 +10,7 @@ use lib.IntN.{pos}
 use lib.Dec.{T, leb, ltb, eqb, leb→le, le→leb, nleb→lt, ltb→lt, lt→ltb, eqb→eq, not_T, T_not, lit≤}
 use lib.Pow.{pow_pos, pow_mono}
 use lib.Bits.{bit_and, and_mask}
-use lib.Ieee.{Float, nan, inf, fin, binary64, up, down, odd, of_int, of_fields, of_bits, is_nan, le, lt, eq, ne, to_unsigned}
+use lib.Ieee.{Float, nan, inf, fin, binary64, up, down, odd, of_int, of_fields, of_bits, is_nan, le, lt, eq, to_unsigned}
 use lib.Ieee.Fits.{down_pos, eq→eqb}
 use lib.Ieee.Bits.{is_true, is_false, nan_bits_is, nan_bits_above}
 use lib.Ieee.Exact.{HasValue}
@@ -358,5 +358,5 @@ module _ (b : ℕ) (low : b < 0x7ff0_0000_0000_0001) where
       go w g = omega arith
 
 -- a NaN, which `v != v` tells
-pub none_at_nan : (v : Float) → ne v v ≡ true → 0 ≡ axis_index v
-none_at_nan v h = from_none v (subst (λ (y : Float). to_unsigned 64 y ≡ 0) (sym (is_nan_law v h)) (unfold to_unsigned in refl))
+pub none_at_nan : (v : Float) (r : Bool) → r ≡ is_nan v → r ≡ true → 0 ≡ axis_index v
+none_at_nan v r e h = from_none v (subst (λ (y : Float). to_unsigned 64 y ≡ 0) (sym (is_nan_law v r e h)) (unfold to_unsigned in refl))

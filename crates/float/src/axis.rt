@@ -33,7 +33,7 @@ fn axis_index_bits(b: u64) -> u32
 pub fn axis_index(v: f64) -> u32
     ensures { result ≡ axis_index v }
 {
-    if v != v {
+    if v.is_nan() {
         return 0;
     }
     axis_index_bits(f64::to_bits(v))

@@ -11,6 +11,8 @@ ghost use Rattle.float.specs.Narrow.{narrow_finite, narrow64, Told};
 
 use pattern::{Binary32, is_finite};
 
+// Narrowing and the floor are worked out from the bits, and not by `as f32` and `as u32`: the scope asks for it, so that what they do is said of their patterns.
+
 // m / 2^d to the nearest whole number, and a tie to the even one.
 fn nearest_shift(m: u64, d: u64) -> u64
     requires { (0 < d) × (d < 64) }
@@ -74,7 +76,7 @@ fn narrow_bits(b: u64) -> u32
 pub fn narrow(x: f64) -> Option<f32>
     ensures { Told x result }
 {
-    if x != x {
+    if x.is_nan() {
         return None;
     }
     let pattern = narrow_bits(f64::to_bits(x));

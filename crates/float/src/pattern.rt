@@ -66,43 +66,12 @@ fn is_nan<F: Layout>(n: u64) -> bool
     F::INFINITY < n % F::SIGN
 }
 
-// The three readers stay apart: `from_bits` of the library is of one type each, so a trait over both would hold the three bodies and no fewer.
-// The binary32 of a pattern. Each NaN's pattern gives the NaN.
-pub fn f32_from_bits(n: u32) -> f32
-    ensures { result ≡ of_bits binary32 n }
-{
-    if is_nan::<Binary32>(n as u64) {
-        return 0.0 / 0.0;
-    }
-    f32::from_bits(n)
-}
-
-// The binary64 of a pattern. Each NaN's pattern gives the NaN.
-pub fn f64_from_bits(b: u64) -> f64
-    ensures { result ≡ of_bits binary64 b }
-{
-    if is_nan::<Binary64>(b) {
-        return 0.0 / 0.0;
-    }
-    f64::from_bits(b)
-}
-
-// A binary32's pattern as a binary64, which holds each binary32.
+// A binary32's pattern as a binary64, which holds each binary32. The library reads and widens in two functions, each with a test for NaNs; this has one.
 pub fn widen(n: u32) -> f64
     ensures { result ≡ of_bits binary32 n }
 {
     if is_nan::<Binary32>(n as u64) {
-        return 0.0 / 0.0;
+        return f64::NAN;
     }
     f32::from_bits(n) as f64
-}
-
-// The pattern of a binary32. A NaN gives 0x7fc00000.
-pub fn f32_to_bits(x: f32) -> u32
-    ensures { result ≡ to_bits binary32 x }
-{
-    if x != x {
-        return 0x7fc0_0000;
-    }
-    f32::to_bits(x)
 }

@@ -4,14 +4,22 @@
 ghost use Rattle.std.specs.Prelude.{◌≡◌, ◌≤◌, ◌<◌, IfOk};
 ghost use Rattle.rym1.specs.Causes.{judged};
 ghost use Rattle.rym1.specs.Journal.{entries, journal_cause, push_cause, last_entry, entry_words, pushed, popped};
-ghost use Rattle.journal.specs.Entry.{words, said};
+ghost use Rattle.journal.specs.Entry.{number, kind_number, words, said};
 
 use rym1::Cause;
 
 // The most entries.
 const MOST: u32 = 16777216;
 
-// What an edit did: the head has its kind in the top two bits and the cell's number below; the masses are those that the cell held before.
+// What an edit did to its cell: a record came, one was written over, one went.
+#[derive(Clone, Copy, PartialEq, Eq)]
+pub enum Kind {
+    Added = 1,
+    Replaced,
+    Removed,
+}
+
+// An edit's account: the head has its kind in the top two bits and the cell's number below; the masses are those that the cell held before.
 #[derive(Clone, Copy)]
 pub struct Entry {
     pub head: u32,
@@ -20,30 +28,29 @@ pub struct Entry {
 }
 
 impl Entry {
-    // The kinds: a record came, one was written over, one went.
-    pub const ADDED: u32 = 1;
-
-    pub const REPLACED: u32 = 2;
-
-    pub const REMOVED: u32 = 3;
-
-    #[tactic(auto, unfolding(rym1::specs::Journal::entry_words))]
-    pub fn new(kind: u32, cell: u32, cauchy: u32, elliptic: u32) -> Entry
-        requires kind { kind < 4 }
-        requires cell { cell < 16777216 }
-        ensures { words result ≡ entry_words kind cell cauchy elliptic }
+    #[tactic(auto, unfolding(crate::specs::Entry::number, rym1::specs::Journal::entry_words))]
+    pub fn new(kind: Kind, cell: u32, cauchy: u32, elliptic: u32) -> Entry
+        requires { cell < 16777216 }
+        ensures { words result ≡ entry_words (number kind) cell cauchy elliptic }
     {
         Entry {
-            head: kind * 0x4000_0000 + cell,
+            head: kind as u32 * 0x4000_0000 + cell,
             cauchy,
             elliptic,
         }
     }
 
-    pub fn kind(self) -> u32
-        ensures { result ≡ (said self).kind }
+    // None in an entry that no edit wrote.
+    #[tactic(auto, unfolding(crate::specs::Entry::number, crate::specs::Entry::kind_number))]
+    pub fn kind(self) -> Option<Kind>
+        ensures { kind_number result ≡ (said self).kind }
     {
-        self.head / 0x4000_0000 % 4
+        match self.head / 0x4000_0000 % 4 {
+            1 => Some(Kind::Added),
+            2 => Some(Kind::Replaced),
+            3 => Some(Kind::Removed),
+            _ => None,
+        }
     }
 
     // The bits between, 0 in an entry that an edit wrote.
@@ -123,9 +130,7 @@ pub fn push(journal: &mut [u32], entry: Entry)
 {
     let e = journal[0];
     let at = 1 + 3 * e as usize;
-    journal[at] = entry.head;
-    journal[at + 1] = entry.cauchy;
-    journal[at + 2] = entry.elliptic;
+    journal[at..at + 3].copy_from_slice(&[entry.head, entry.cauchy, entry.elliptic]);
     journal[0] = e + 1;
 }
 
@@ -138,8 +143,6 @@ pub fn pop(journal: &mut [u32])
 {
     let e = journal[0] - 1;
     let at = 1 + 3 * e as usize;
-    journal[at] = 0;
-    journal[at + 1] = 0;
-    journal[at + 2] = 0;
+    journal[at..at + 3].fill(0);
     journal[0] = e;
 }

@@ -11,7 +11,7 @@ use native.Mathlib.Omega.{arith}
 use lib.ListN.{length, get_or, set, take, length-set, length-append}
 use lib.Seq.{get_or-set_same, get_or-set_other}
 use Rattle.rym1.specs.declared.Point.{Point}
-use Rattle.rym1.specs.File.{grid, count, size, point_at, points_at, points, cell, cell_of, cube, file_cause}
+use Rattle.rym1.specs.File.{grid, count, size, point_at, points_at, points, cell_of, cube, file_cause}
 use Rattle.rym1.specs.Cells.{Slot, vacant, held, named, later, look_from, look, masses_in, mass_map, at_cell, records_from, records}
 use Rattle.rym1.specs.Open.{occupied, occupied_of}
 use Rattle.rym1.proofs.Accepted.{Inside, accepted, accepted_points, inside_at}
@@ -50,17 +50,14 @@ pub record Entering (words f : List ℕ) (g i n : ℕ) : Type 0 where
 pub enter_start : (words f : List ℕ) (g n : ℕ) → g ≡ grid f → n ≡ count f → cube g ≤ length words → ((c : ℕ) → c < cube g → get_or words c 0 ≡ 0) → Entering words f g 0 n
 enter_start words f g n eg en h all = record { room = h; each = λ c b. rw (all c b, sub-zero n, eg, en) (over_zero _ ∙ (unfold look points in refl)) }
 
-pub enter_turn : (words f : List ℕ) (g i n c : ℕ) (p : Point) → i < n → p ≡ point_at f (64 + 16 * i) → c ≡ cell g p.x p.y p.z → c < cube g
+pub enter_turn : (words f : List ℕ) (g i n c : ℕ) → i < n → c ≡ cell_of g (point_at f (64 + 16 * i)) → c < cube g
     → Entering words f g i n → Entering (set words c (i + 1)) f g (i + 1) n
-enter_turn words f g i n c p h ep ec low d =
+enter_turn words f g i n c h e low d =
     record {
       room = rw (length-set words c (i + 1)) d.room;
       each = λ k b. step k b ∙ d.each k b;
     }
   where
-    e : c ≡ cell_of g (point_at f (64 + 16 * i))
-    e = unfold cell_of in ec ∙ ap (λ (q : Point). cell g q.x q.y q.z) ep
-
     one_less : n - i ≡ suc (n - (i + 1))
     one_less = omega arith
 

@@ -9,7 +9,7 @@ ghost use Rattle.lookup.specs.Lookup.{Looked};
 
 use points::file::PointFile;
 use points::judge::parse_mascon_bytes;
-use points::records::cell_number;
+use points::records::cells;
 use rym1::Cause;
 
 // Each record in file order: the later one counts.
@@ -18,22 +18,9 @@ fn enter_points(words: &mut [u32], file: PointFile<'_>)
         × ((c : ℕ) → c < cube (grid file.bytes.now) → get_or words.old c 0 ≡ 0) }
     ensures { Looked words.new file.entry.bytes.now × (length words.new ≡ length words.old) }
 {
-    let g = file.grid();
-    let n = file.count();
-    for i in 0..n {
-        let p = file.point(i);
-        let c = cell_number(g, p.x, p.y, p.z);
-        words[c as usize] = i + 1;
+    for i in 0..file.count() {
+        words[file.cell(i) as usize] = i + 1;
     }
-}
-
-// How many cells a grid has.
-pub fn cells(g: u32) -> usize
-    requires { g ≤ 256 }
-    ensures { (result ≡ cube g) × (result ≤ 16777216) }
-{
-    let side = g as usize;
-    side * side * side
 }
 
 // The whole lookup of a file.

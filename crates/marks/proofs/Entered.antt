@@ -13,7 +13,7 @@ use lib.Dec.{eqb, leb}
 use borrow.Author.Tests.{not-false}
 use lib.Count.{ones}
 use Rattle.rym1.specs.declared.Point.{Point}
-use Rattle.rym1.specs.File.{grid, count, point_at, points_at, points, cell, cell_of, cube, groups, file_cause, working, work_cause}
+use Rattle.rym1.specs.File.{grid, count, point_at, points_at, points, cell_of, cube, groups, file_cause, working, work_cause}
 use Rattle.rym1.specs.Cells.{Slot, vacant, held, masses_of, later, look_from, look, masses_in, mass_map}
 use Rattle.rym1.proofs.Accepted.{accepted}
 use Rattle.rym1.proofs.Causes.{and_true_r, when_zero}
@@ -86,12 +86,12 @@ alone : (g i : ℕ) (p : Point) (ps : List Point) (c : ℕ) → look_from g (suc
 unfolding look_from later
 alone g i p ps c v e = rw (v, named_same g i p c e)
 
-module _ (words f : List ℕ) (g i n c : ℕ) (p : Point) (h : i < n) (ep : p ≡ point_at f (64 + 16 * i)) (ec : c ≡ cell g p.x p.y p.z) (inside : c < cube g) (d : Entering words f g i n) where
+module _ (words f : List ℕ) (g i n c : ℕ) (h : i < n) (ec : c ≡ cell_of g (point_at f (64 + 16 * i))) (inside : c < cube g) (d : Entering words f g i n) where
   abbrev rest : List Point
   rest = points_at f (64 + 16 * (i + 1)) (n - (i + 1))
 
   is_cell : cell_of g (point_at f (64 + 16 * i)) ≡ c
-  is_cell = unfold cell_of in sym (ec ∙ ap (λ (q : Point). cell g q.x q.y q.z) ep)
+  is_cell = sym ec
 
   first_is : points_at f (64 + 16 * i) (n - i) ≡ point_at f (64 + 16 * i) ∷ rest
   first_is =

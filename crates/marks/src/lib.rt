@@ -5,11 +5,10 @@ ghost use Rattle.std.specs.Prelude.{◌≡◌, ℕ, ◌+◌, ◌*◌, ◌%◌, �
 ghost use Rattle.rym1.specs.File.{grid, cube, groups};
 ghost use Rattle.marks.specs.Marks.{mark, tally, Entered, Marked};
 
-use lookup::cells;
 use points::file::{PointFile, WorkingFile};
-use points::records::cell_number;
+use points::records::cells;
 
-// How many words marks and totals take.
+// How many words marks and totals take. Of g: points/records.rt.
 pub fn room(g: u32) -> usize
     requires { g ≤ 256 }
     ensures { (result ≡ 2 * groups (cube g)) × (result ≤ 1048576) }
@@ -23,24 +22,19 @@ fn enter_marks(words: &mut [u32], file: WorkingFile<'_>)
         × ((k : ℕ) → k < 2 * groups (cube (grid file.file.bytes.now)) → get_or words.old k 0 ≡ 0) }
     ensures { Entered words.new file.entry.file.bytes.now × (length words.new ≡ length words.old) }
 {
-    let records = file.file;
-    let g = records.grid();
-    let n = records.count();
-    for i in 0..n {
-        let p = records.point(i);
-        let c = cell_number(g, p.x, p.y, p.z);
+    for i in 0..file.file.count() {
+        let c = file.file.cell(i);
         words[2 * (c / 32) as usize] += 1u32 << (c % 32);
     }
 }
 
-// The running totals, of n pairs.
-fn enter_totals(words: &mut [u32], file: PointFile<'_>, n: usize)
-    requires entered { Entered words.old file.bytes.now }
-    requires pairs { n ≡ groups (cube (grid file.bytes.now)) }
+// The running totals.
+fn enter_totals(words: &mut [u32], file: PointFile<'_>)
+    requires { Entered words.old file.bytes.now }
     ensures { Marked words.new file.entry.bytes.now × (length words.new ≡ length words.old) }
 {
     let mut total: u32 = 0;
-    for i in 0..n {
+    for i in 0..room(file.grid()) / 2 {
         words[2 * i + 1] = total;
         total += u32::count_ones(words[2 * i]);
     }
@@ -51,10 +45,9 @@ pub fn fill_marks(words: &mut [u32], file: WorkingFile<'_>)
     requires { 2 * groups (cube (grid file.file.bytes.now)) ≤ length words.old }
     ensures { Marked words.new file.entry.file.bytes.now × (length words.new ≡ length words.old) }
 {
-    let all = room(file.file.grid());
-    words[..all].fill(0);
+    words[..room(file.file.grid())].fill(0);
     enter_marks(words, file);
-    enter_totals(words, file.file, all / 2);
+    enter_totals(words, file.file);
 }
 
 // Words that hold the marks and totals of a file.

@@ -38,7 +38,7 @@ fn lists_wrong(triangles: &[u8], cauchy: &[u8], elliptic: &[u8], target: f64, de
 fn clear_refused(out: &mut [u8], cause: Cause) -> Result<u64, Cause>
     ensures { (result ≡ Err cause) × (out.new ≡ replicate (length out.old) 0) }
 {
-    binary::clear(out);
+    out.fill(0);
     Err(cause)
 }
 

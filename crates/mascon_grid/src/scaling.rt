@@ -8,10 +8,10 @@ ghost use Rattle.mascon_grid.specs.Scaled.{scaled_point, scaled_points, header_f
 
 use filling::Frame;
 use float::number::abs;
-use float::pattern::{f32_from_bits, f32_to_bits};
 use points::judge::is_finite;
 use points::records::{out_point, point_at};
 use rym1::Point;
+use std::num::{f32_from_bits_with_nan, f32_to_bits_with_nan};
 use visit::Found;
 
 // What the masses of a raw sum are scaled by.
@@ -31,7 +31,7 @@ pub fn scale_of(target: f64, sum: f64) -> f64
 fn product(a: u32, b: u32) -> u32
     ensures { result ≡ product a b }
 {
-    f32_to_bits(f32_from_bits(a) * f32_from_bits(b))
+    f32_to_bits_with_nan(f32_from_bits_with_nan(a) * f32_from_bits_with_nan(b))
 }
 
 // The record's masses scaled by the patterns k and l.
@@ -106,7 +106,7 @@ pub fn scale_records(
     let mut words = [0; 11];
     binary::narrow_all(&floats, &mut words)?;
     // the header has the Cauchy scale
-    scale_masses(out, w.count, words[2], f32_to_bits(l))?;
+    scale_masses(out, w.count, words[2], f32_to_bits_with_nan(l))?;
     Some(words)
 }
 

@@ -1,7 +1,7 @@
 // Vectors and triangles (model.rs), and the mesh that is lent as little-endian bytes.
 #![tactic(auto)]
 
-ghost use Rattle.std.specs.Prelude.{◌≡◌, ℕ, ◌+◌, ◌*◌, ◌≤◌, ◌<◌, Bool, true, List, length};
+ghost use Rattle.std.specs.Prelude.{◌≡◌, ℕ, ◌+◌, ◌*◌, ◌/◌, ◌≤◌, ◌<◌, Bool, true, List, length};
 ghost use Rattle.std.proofs.Common.{rules};
 ghost use Rattle.filling.specs.Vector.{vec, sub, cross, dot};
 ghost use Rattle.filling.specs.Lists.{vec3, triangle, mesh, up_to, vector_up_to, good_triangle, good_triangles, mesh_wrong};
@@ -187,4 +187,44 @@ pub fn mesh_wrong(s: &[u8]) -> bool
 pub struct Mesh<'a> {
     pub bytes: &'a [u8],
     ghost good: { good_triangles (mesh bytes.now) ≡ true },
+}
+
+// A triangle within bounds, which starts at byte `at` of s.
+#[derive(Clone, Copy)]
+pub struct TriangleAt<'a> {
+    pub s: &'a [u8],
+    pub at: usize,
+    pub ghost inside: { at + 72 ≤ length s.now },
+    pub ghost good: { good_triangle (triangle s.now at) ≡ true },
+}
+
+impl<'a> Mesh<'a> {
+    // How many triangles it has.
+    pub fn number(&self) -> usize
+        ensures { result ≡ length self.now.bytes.now / 72 }
+    {
+        self.bytes.len() / 72
+    }
+
+    // The triangle i.
+    #[tactic(auto, using(filling::proofs::Rows::good_at), unfolding(filling::specs::Rows::triangle_of))]
+    pub fn triangle(&self, i: usize) -> TriangleAt<'a>
+        requires { i < length self.now.bytes.now / 72 }
+        ensures bytes { result.s.now ≡ self.now.bytes.now }
+        ensures place { result.at ≡ 72 * i }
+    {
+        TriangleAt {
+            s: self.bytes,
+            at: 72 * i,
+        }
+    }
+}
+
+impl TriangleAt<'_> {
+    // Its corners.
+    pub fn read(self) -> Triangle
+        ensures { result ≡ triangle self.entry.s.now self.entry.at }
+    {
+        triangle_at(self.s, self.at)
+    }
 }

@@ -1,6 +1,6 @@
 // A point file that nothing is against, with its fields and records; and one in working form.
 ghost use Rattle.std.specs.Prelude.{◌≡◌, ◌+◌, ◌*◌, ◌<◌, ◌≤◌};
-ghost use Rattle.rym1.specs.File.{grid, count, point_at, file_cause, work_cause};
+ghost use Rattle.rym1.specs.File.{grid, count, point_at, cell_of, cube, file_cause, work_cause};
 ghost use Rattle.rym1.proofs.Accepted.{Inside};
 
 use crate::records;
@@ -35,6 +35,17 @@ impl<'a> PointFile<'a> {
         ensures inside { Inside (grid self.now.bytes.now) result.x result.y result.z }
     {
         records::point_at(self.bytes, 64 + 16 * i as usize)
+    }
+
+    // The number of the cell that a record names.
+    #[tactic(auto, unfolding(rym1::specs::File::cell_of))]
+    pub fn cell(&self, i: u32) -> u32
+        requires { i < count self.now.bytes.now }
+        ensures value { result ≡ cell_of (grid self.now.bytes.now) (point_at self.now.bytes.now (64 + 16 * i)) }
+        ensures within { result < cube (grid self.now.bytes.now) }
+    {
+        let p = self.point(i);
+        records::cell_number(self.grid(), p.x, p.y, p.z)
     }
 }
 

@@ -2,7 +2,7 @@
 ghost use Rattle.std.specs.Prelude.{◌≡◌, ◌+◌, ◌*◌, ◌≤◌, ◌<◌, ◌&&◌, not, length, eqb, IfOk};
 ghost use Rattle.rym1.specs.Bytes.{word32};
 ghost use Rattle.rym1.specs.Causes.{judged};
-ghost use Rattle.rym1.specs.File.{grid, count, points_at, size, finite, all_finite, header_floats, below};
+ghost use Rattle.rym1.specs.File.{grid, count, points, points_at, size, finite, all_finite, header_floats, below};
 ghost use Rattle.rym1.specs.File.{grid_cause, place_cause, mass_cause, point_cause, points_cause, header_cause, file_cause, working, work_cause};
 
 use crate::file::{PointFile, WorkingFile};
@@ -79,7 +79,7 @@ fn are_finite(file: &[u8], at: usize) -> bool
         && is_finite(binary::u32_at(file, at + 8))
 }
 
-// The nine floats that are read.
+// The nine floats that are read. This and the next two read a header before the file is accepted, when there is no type that says so.
 fn has_finite_floats(file: &[u8]) -> bool
     requires { 64 ≤ length file.now }
     ensures { result ≡ all_finite (header_floats file.now) }
@@ -92,8 +92,8 @@ fn is_below(file: &[u8], axis: usize) -> bool
     requires { (64 ≤ length file.now) × (axis < 3) }
     ensures { result ≡ below file.now axis }
 {
-    let min = float::pattern::f32_from_bits(binary::u32_at(file, 32 + 4 * axis));
-    let max = float::pattern::f32_from_bits(binary::u32_at(file, 44 + 4 * axis));
+    let min = std::num::f32_from_bits_with_nan(binary::u32_at(file, 32 + 4 * axis));
+    let max = std::num::f32_from_bits_with_nan(binary::u32_at(file, 44 + 4 * axis));
     min < max
 }
 
@@ -135,15 +135,15 @@ pub fn parse_mascon_bytes(file: &[u8]) -> Result<PointFile<'_>, Cause>
     Ok(PointFile { bytes: file })
 }
 
-// Strictly ascending by cell number, each pad 0: of a file that is not refused.
-fn is_working(file: &[u8], g: u32, n: u32) -> bool
-    requires whole { (size n ≤ length file.now) × (g ≤ 256) }
-    requires right { points_cause g (points_at file.now 64 n) ≡ 0 }
-    ensures { result ≡ working g 0 (points_at file.now 64 n) }
+// Strictly ascending by cell number, each pad 0.
+fn is_working(file: PointFile<'_>) -> bool
+    ensures { result ≡ working (grid file.entry.bytes.now) 0 (points file.entry.bytes.now) }
 {
+    let g = file.grid();
+    let n = file.count();
     let mut low: u32 = 0;
     for i in 0..n {
-        let p = point_at(file, 64 + 16 * i as usize);
+        let p = file.point(i);
         let c = cell_number(g, p.x, p.y, p.z);
         if c < low || p.pad != 0 {
             return false;
@@ -158,7 +158,7 @@ pub fn work_cause(file: PointFile<'_>) -> Result<WorkingFile<'_>, Cause>
     ensures cause { judged result ≡ work_cause file.entry.bytes.now }
     ensures file { IfOk result (λ w. w.file.bytes.now ≡ file.entry.bytes.now) }
 {
-    if is_working(file.bytes, file.grid(), file.count()) {
+    if is_working(file) {
         return Ok(WorkingFile { file });
     }
     Err(Cause::NotWorking)

@@ -7,7 +7,19 @@ ghost use Rattle.rym1.proofs.Accepted.{Inside};
 
 use rym1::Point;
 
-// These take any bytes with a header, as the judge reads them before the file is accepted; of an accepted file its methods read (`PointFile`).
+// Of a grid's number each function asks what it needs alone: at most 256 here, above 0 where a cell's number is taken apart. A type of both would ask more of callers, and of a type of
+// each the number would be taken out at every use.
+
+// How many cells a grid has.
+pub fn cells(g: u32) -> usize
+    requires { g ≤ 256 }
+    ensures { (result ≡ cube g) × (result ≤ 16777216) }
+{
+    let side = g as usize;
+    side * side * side
+}
+
+// The next two take any bytes with a header, as the judge reads them before the file is accepted; an accepted file has methods for them (`PointFile`).
 // The header's grid.
 pub fn grid(file: &[u8]) -> u32
     requires { 64 ≤ length file.now }
@@ -69,7 +81,7 @@ pub fn cell_point(g: u32, c: u32, cauchy: u32, elliptic: u32) -> Point
     }
 }
 
-// The first eight bytes of a record, as a number: x lowest, two bytes each. The fields are wider than what is written, so no conversion of the library is at hand.
+// The first eight bytes of a record, as a number: x lowest, two bytes each. One store of eight bytes is plainer than four of two.
 fn place_number(p: Point) -> u64
     ensures { le64 result ≡ le16 p.x ++ (le16 p.y ++ (le16 p.z ++ le16 p.pad)) }
 {

@@ -1,8 +1,8 @@
 // A test of y and z alone that most triangles fail.
-ghost use Rattle.std.specs.Prelude.{◌≡◌, true, ◌+◌, ◌≤◌, length, Float};
+ghost use Rattle.std.specs.Prelude.{◌≡◌, true, Float};
 ghost use Rattle.filling.specs.declared.Crossing.TheVariants.{Miss};
 ghost use Rattle.filling.specs.Vector.{vec};
-ghost use Rattle.filling.specs.Lists.{triangle, point_limit, up_to, vector_up_to, good_triangle};
+ghost use Rattle.filling.specs.Lists.{triangle, point_limit, up_to, vector_up_to};
 ghost use Rattle.filling.specs.Ray.{ray};
 ghost use Rattle.ray.specs.Quick.{quick_miss};
 
@@ -10,22 +10,22 @@ use crate::EPS;
 use binary::number_at;
 use filling::Vec3;
 use float::number::abs;
+use model::TriangleAt;
 
-// Whether the determinant or u rules out the triangle at byte `at`.
+// Whether the determinant or u rules out the triangle.
 #[tactic(auto, unfolding(crate::specs::Quick::quick_miss, filling::specs::Lists::triangle, filling::specs::Lists::vec3, filling::specs::Lists::float))]
-fn quick_miss(s: &[u8], at: usize, origin: Vec3) -> bool
-    requires inside { at + 72 ≤ length s.now }
-    requires good { good_triangle (triangle s.now at) ≡ true }
-    ensures { result ≡ quick_miss origin (triangle s.now at) }
+fn quick_miss(t: TriangleAt, origin: Vec3) -> bool
+    ensures { result ≡ quick_miss origin (triangle t.entry.s.now t.entry.at) }
 {
-    let b = at + 24;
-    let c = at + 48;
-    let ay = number_at(s, at + 8);
-    let az = number_at(s, at + 16);
-    let e1y = number_at(s, b + 8) - ay;
-    let e1z = number_at(s, b + 16) - az;
-    let e2y = number_at(s, c + 8) - ay;
-    let e2z = number_at(s, c + 16) - az;
+    let a = t.at;
+    let b = a + 24;
+    let c = a + 48;
+    let ay = number_at(t.s, a + 8);
+    let az = number_at(t.s, a + 16);
+    let e1y = number_at(t.s, b + 8) - ay;
+    let e1z = number_at(t.s, b + 16) - az;
+    let e2y = number_at(t.s, c + 8) - ay;
+    let e2z = number_at(t.s, c + 16) - az;
     let determinant = e1z * e2y - e1y * e2z;
     if abs(determinant) < EPS {
         return true;
@@ -37,22 +37,18 @@ fn quick_miss(s: &[u8], at: usize, origin: Vec3) -> bool
 }
 
 // Whether the triangle may be passed over at every point with these y and z; near: both are within bounds.
-pub fn skips_row(s: &[u8], at: usize, y: f64, z: f64, near: bool) -> bool
-    requires inside { at + 72 ≤ length s.now }
-    requires good { good_triangle (triangle s.now at) ≡ true }
-    requires within { near ≡ true → (up_to point_limit y ≡ true) × (up_to point_limit z ≡ true) }
+pub fn skips_row(t: TriangleAt, y: f64, z: f64, near: bool) -> bool
+    requires { near ≡ true → (up_to point_limit y ≡ true) × (up_to point_limit z ≡ true) }
     ensures { result ≡ true → (near ≡ true)
-        × ((x : Float) → up_to point_limit x ≡ true → ray (vec x y z) (triangle s.now at) ≡ Miss) }
+        × ((x : Float) → up_to point_limit x ≡ true → ray (vec x y z) (triangle t.entry.s.now t.entry.at) ≡ Miss) }
 {
-    near && quick_miss(s, at, Vec3 { x: 0.0, y, z })
+    near && quick_miss(t, Vec3 { x: 0.0, y, z })
 }
 
 // Whether the triangle may be passed over; near: the point is within bounds.
-pub fn skips(s: &[u8], at: usize, origin: Vec3, near: bool) -> bool
-    requires inside { at + 72 ≤ length s.now }
-    requires good { good_triangle (triangle s.now at) ≡ true }
-    requires within { near ≡ true → vector_up_to point_limit origin ≡ true }
-    ensures { result ≡ true → ray origin (triangle s.now at) ≡ Miss }
+pub fn skips(t: TriangleAt, origin: Vec3, near: bool) -> bool
+    requires { near ≡ true → vector_up_to point_limit origin ≡ true }
+    ensures { result ≡ true → ray origin (triangle t.entry.s.now t.entry.at) ≡ Miss }
 {
-    skips_row(s, at, origin.y, origin.z, near)
+    skips_row(t, origin.y, origin.z, near)
 }

@@ -128,9 +128,9 @@ unfolding crossing_up_to point_of
 up_is top t y z xs ix q c e = e
 
 -- where every point misses, nothing changes
-pub missed_at : (s : List ℕ) (b : Bounds) (y z : Float) (xs : List Float) (i q : ℕ) → ray (point_of y z xs q) (triangle_of s i) ≡ Miss → crossing_at s b y z xs i q ≡ Miss
-unfolding crossing_at crossing_on
-missed_at s b y z xs i q e = rw e (both (ahead s b (indices b (point_of y z xs q)) i) Miss)
+pub missed_up_to : (top : ℕ) (t : Triangle) (y z : Float) (xs : List Float) (ix : List ℕ) (q : ℕ) → ray (point_of y z xs q) t ≡ Miss → crossing_up_to top t y z xs ix q ≡ Miss
+unfolding crossing_up_to
+missed_up_to top t y z xs ix q e = rw e (both (leb (get_or ix q 0) top) Miss)
   where
     both : (t : Bool) (c : Crossing) → cond t c c ≡ c
     both true c = refl

@@ -3,18 +3,18 @@
 
 ghost use Rattle.std.specs.Prelude.{◌≡◌, true, cond, ◌++◌, ℕ, ◌*◌, ◌+◌, ◌/◌, ◌≤◌, ◌<◌, length, get_or, leb};
 ghost use Rattle.filling.specs.declared.Crossing.TheVariants.{Miss};
-ghost use Rattle.filling.specs.Lists.{mesh as mesh_of, good_triangle};
+ghost use Rattle.filling.specs.Lists.{mesh as mesh_of, triangle, good_triangle};
 ghost use Rattle.filling.specs.Ray.{ray};
 ghost use Rattle.float.specs.Axis.{axis_index};
-ghost use Rattle.filling.specs.Inside.{listed, scaled, odd_rest, yes, is_inside};
+ghost use Rattle.filling.specs.Inside.{high_of, listed, scaled, odd_rest, yes, is_inside};
 ghost use Rattle.filling.specs.Rows as def;
 ghost use Rattle.row.specs.Row as note;
 
-use accelerator::{indices, upper_x};
+use accelerator::{indices, ranges_of};
 use counting::AXIS;
 use filling::{Bounds, Crossing, Triangle, Vec3};
 use inside::crossings::is_odd;
-use model::{triangle_at, vector_up_to};
+use model::{TriangleAt, vector_up_to};
 use ray::quick::skips_row;
 use ray::ray_triangle_t;
 use rows::Lists;
@@ -48,7 +48,7 @@ fn crossing_up_to(i: u32, top: u32, o: Vec3, t: Triangle) -> Crossing
     }
 }
 
-// Stores a crossing behind the m that its region has, and says how many it has now.
+// Stores a crossing behind the m that its region has, and says how many it has now: m moves only where there is one, so no `for` and no zip counts it.
 fn store(c: Crossing, fl: &mut [f64], spot: usize, m: usize) -> usize
     requires { spot + m < length fl.old }
     ensures stored { fl.new ≡ note.stored fl.old (spot + m) c }
@@ -62,7 +62,7 @@ fn store(c: Crossing, fl: &mut [f64], spot: usize, m: usize) -> usize
 }
 
 // One triangle at every point of the row: the crossing goes to the region of each. `counts` says how many each region of `fl` has, of at most `len`.
-// They stay two slices and a length: a ghost field cannot stand beside a `&mut`, and without one each contract would also say that both references stay.
+// They stay two slices and a length: of a struct of two `&mut` each contract would also have to say that both references stay the same.
 fn at_points(top: u32, t: Triangle, row: &Row, fl: &mut [f64], counts: &mut [u64], len: usize)
     requires counters { length row.now.xs.now ≤ length counts.old }
     requires room { length row.now.xs.now * len ≤ length fl.old }
@@ -84,23 +84,21 @@ fn at_points(top: u32, t: Triangle, row: &Row, fl: &mut [f64], counts: &mut [u64
     }
 }
 
-// One entry of the list, the triangle i: most are passed over at once.
-fn entry(s: &[u8], i: usize, row: &Row, fl: &mut [f64], counts: &mut [u64], len: usize)
-    requires inside { 72 * i + 72 ≤ length s.now }
-    requires good { good_triangle (def.triangle_of s.now i) ≡ true }
+// One entry of the list: most are passed over at once.
+fn entry(at: TriangleAt, row: &Row, fl: &mut [f64], counts: &mut [u64], len: usize)
     requires counters { length row.now.xs.now ≤ length counts.old }
     requires room { length row.now.xs.now * len ≤ length fl.old }
     requires free { (q : ℕ) → q < length row.now.xs.now → get_or counts.old q 0 < len }
     ensures few { (q : ℕ) → q < length row.now.xs.now → get_or counts.new q 0 ≤ get_or counts.old q 0 + 1 }
-    ensures regions { (q : ℕ) → q < length row.now.xs.now
+    ensures regions { let t = triangle at.entry.s.now at.entry.at in (q : ℕ) → q < length row.now.xs.now
         → note.region fl.new counts.new len q
-        ≡ note.region fl.old counts.old len q ++ listed (note.crossing_at s.now row.now.b row.now.y row.now.z row.now.xs.now i q) }
+        ≡ note.region fl.old counts.old len q ++ listed (note.crossing_up_to (high_of row.now.b t).i t row.now.y row.now.z row.now.xs.now row.now.ix.now q) }
 {
-    if skips_row(s, 72 * i, row.y, row.z, row.near) {
+    if skips_row(at, row.y, row.z, row.near) {
         return;
     }
-    let t = triangle_at(s, 72 * i);
-    at_points(upper_x(row.b, t), t, row, fl, counts, len);
+    let t = at.read();
+    at_points(ranges_of(row.b, t).high.i, t, row, fl, counts, len);
 }
 
 // The crossings of all points of the row, each in its region, from one reading of the row's list; how many entries were read.
@@ -119,7 +117,11 @@ pub fn pass(s: &[u8], row: &Row, list: &[u32], fl: &mut [f64], counts: &mut [u64
         ≡ note.crossings_at s.now row.now.b row.now.y row.now.z row.now.xs.now list.now q }
 {
     for i in list {
-        entry(s, *i as usize, row, fl, counts, list.len());
+        let at = TriangleAt {
+            s,
+            at: 72 * *i as usize,
+        };
+        entry(at, row, fl, counts, list.len());
     }
     list.len()
 }
@@ -131,17 +133,15 @@ fn answer(h: &mut [f64]) -> u8
     is_odd(h) as u8
 }
 
-// The answers of n points, one byte each, from the regions of their crossings, which are sorted in their place.
-pub fn answers(n: usize, len: usize, counts: &[u64], fl: &mut [f64], out: &mut [u8])
-    requires counters { n ≤ length counts.now }
-    requires room { n * len ≤ length fl.old }
-    requires bytes { n ≤ length out.old }
-    requires few { (q : ℕ) → q < n → get_or counts.now q 0 ≤ len }
+// The answers of as many points as `out` has bytes, from the regions of their crossings, which are sorted in their place.
+pub fn answers(len: usize, counts: &[u64], fl: &mut [f64], out: &mut [u8])
+    requires counters { length out.old ≤ length counts.now }
+    requires room { length out.old * len ≤ length fl.old }
+    requires few { (q : ℕ) → q < length out.old → get_or counts.now q 0 ≤ len }
     ensures bytes { length out.new ≡ length out.old }
-    ensures answered { (q : ℕ) → q < n → get_or out.new q 0 ≡ yes (odd_rest (note.region fl.old counts.now len q)) }
-    ensures rest { (q : ℕ) → n ≤ q → get_or out.new q 0 ≡ get_or out.old q 0 }
+    ensures answered { (q : ℕ) → q < length out.old → get_or out.new q 0 ≡ yes (odd_rest (note.region fl.old counts.now len q)) }
 {
-    for q in 0..n {
+    for q in 0..out.len() {
         let a = q * len;
         let e = a + counts[q] as usize;
         out[q] = answer(&mut fl[a..e]);
@@ -163,7 +163,7 @@ pub fn row_answers(s: &[u8], row: &Row, list: &[u32], fl: &mut [f64], out: &mut 
 {
     let mut counts = [0u64; MOST_POINTS];
     let read = pass(s, row, list, fl, &mut counts);
-    answers(row.xs.len(), list.len(), &counts, fl, out);
+    answers(list.len(), &counts, fl, &mut out[..row.xs.len()]);
     read
 }
 

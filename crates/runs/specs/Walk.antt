@@ -10,7 +10,7 @@ use Rattle.runs.specs.Left.{points_from, cells_from}
 
 -- the file
 abbrev pub file_of : Runs → List ℕ
-file_of s = s.lookup.file.now
+file_of s = s.lookup.file.bytes.now
 
 -- the points to come, and in how many cells
 abbrev pub left : Runs → List Placed

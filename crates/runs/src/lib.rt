@@ -14,10 +14,10 @@ use lookup::fill_counted;
 use marks::fill_marks;
 use points::file::{PointFile, WorkingFile};
 use points::judge::work_cause;
-use points::records::cell_number;
-use search::next;
+use points::records::{cell_number, cells};
 
-// How the words of scratch are laid out: marks and totals, or a word per cell.
+// How the words of scratch are laid out: marks and totals, or a word per cell. An enum that is matched in three places, `room`, `fill` and `next_run`: build chooses while it runs, and a
+// trait of three functions would be one of two types behind a match all the same.
 #[derive(Clone, Copy)]
 pub enum Form {
     Marks,
@@ -34,14 +34,14 @@ pub fn form_of(file: PointFile<'_>) -> Form
     }
 }
 
-// How many words it takes.
+// How many words it takes. Of g: points/records.rt.
 pub fn room(form: Form, g: u32) -> usize
     requires { g ≤ 256 }
     ensures { result ≡ room_of form g }
 {
     match form {
         Form::Marks => marks::room(g),
-        Form::Words => lookup::cells(g),
+        Form::Words => cells(g),
     }
 }
 
@@ -60,7 +60,8 @@ pub fn fill(words: &mut [u32], file: PointFile<'_>, form: Form) -> u32
     }
 }
 
-// Records on end, from an index on, that are a row's points from a place up to the next one to look at.
+// Records on end, from an index on, that are a row's points from a place up to the next one to look at. None is a count of 0: a loop over them takes no turn, where an
+// Option would have to be opened at each row.
 #[derive(Clone, Copy)]
 pub struct Run {
     pub index: u32,
@@ -68,69 +69,90 @@ pub struct Run {
     pub next: u32,
 }
 
-// A file that is not refused, of grid g, and the words in which its lookup stands.
+// A file, its grid g, and the words in which its lookup stands.
 #[derive(Clone, Copy)]
 pub struct Lookup<'a> {
     pub words: &'a [u32],
-    pub file: &'a [u8],
+    pub file: PointFile<'a>,
     pub form: Form,
     pub g: u32,
-    pub ghost ready: { Ready form words.now file.now g } by { Ready-prop form words.now file.now g },
+    pub ghost ready: { Ready form words.now file.bytes.now g } by { Ready-prop form words.now file.bytes.now g },
+}
+
+impl<'a> Lookup<'a> {
+    // The lookup of a file in words that hold it in this form.
+    pub fn new(words: &'a [u32], file: &'a [u8], form: Form) -> Lookup<'a>
+        requires { Ready form words.now file.now (grid file.now) }
+        ensures { result.file.bytes.now ≡ file.now }
+    {
+        let file = PointFile { bytes: file };
+        Lookup {
+            words,
+            file,
+            form,
+            g: file.grid(),
+        }
+    }
+}
+
+// What is left of a row of cells, from x up to x1.
+#[derive(Clone, Copy)]
+pub struct Rest<'a> {
+    pub lookup: Lookup<'a>,
+    pub z: u32,
+    pub y: u32,
+    pub x: u32,
+    pub x1: u32,
+    pub ghost some: { x < x1 },
+    pub ghost x_in: { x1 ≤ lookup.g },
+    pub ghost y_in: { y < lookup.g },
+    pub ghost z_in: { z < lookup.g },
 }
 
 // The hints on inlining here and in `walk` make one loop of a visit and what is done with its runs.
-impl Lookup<'_> {
+impl Rest<'_> {
     // By marks: all that is left of the row, where the search finds one.
     #[inline(always)]
-    fn marked_run(&self, z: u32, y: u32, x: u32, x1: u32) -> Run
-        requires form { self.now.form ≡ Marks }
-        requires in_grid { (x < x1) × (x1 ≤ self.now.g) × (y < self.now.g) × (z < self.now.g) }
-        ensures { Ran self.now.file.now self.now.g z y x x1 result }
+    fn marked_run(&self) -> Run
+        requires form { self.now.lookup.form ≡ Marks }
+        ensures { Ran self.now.lookup.file.bytes.now self.now.lookup.g self.now.z self.now.y self.now.x self.now.x1 result }
     {
-        let c = cell_number(self.g, x, y, z);
-        let w = x1 - x;
-        let Some(_) = next(self.words, c, c + w).cell else {
+        let c = cell_number(self.lookup.g, self.x, self.y, self.z);
+        let w = self.x1 - self.x;
+        let next = self.x1;
+        let Some(_) = search::next(self.lookup.words, c, c + w).cell else {
             return Run {
                 index: 0,
                 count: 0,
-                next: x1,
+                next,
             };
         };
         let held = marks::Marks {
-            words: self.words,
-            file: PointFile { bytes: self.file },
+            words: self.lookup.words,
+            file: self.lookup.file,
         };
         let index = held.index_of(c);
         let count = held.count_of(c, w, index);
-        Run {
-            index,
-            count,
-            next: x1,
-        }
+        Run { index, count, next }
     }
 
     // By words: the row's points from the first one on, as long as their records stand on end.
     #[inline(always)]
-    fn worded_run(&self, z: u32, y: u32, x: u32, x1: u32) -> Run
-        requires form { self.now.form ≡ Words }
-        requires in_grid { (x < x1) × (x1 ≤ self.now.g) × (y < self.now.g) × (z < self.now.g) }
-        ensures { Ran self.now.file.now self.now.g z y x x1 result }
+    fn worded_run(&self) -> Run
+        requires form { self.now.lookup.form ≡ Words }
+        ensures { Ran self.now.lookup.file.bytes.now self.now.lookup.g self.now.z self.now.y self.now.x self.now.x1 result }
     {
-        let row = cell_number(self.g, 0, y, z);
+        let row = cell_number(self.lookup.g, 0, self.y, self.z);
         let mut index = 0;
         let mut count = 0;
-        for at in x..x1 {
-            let word = self.words[(row + at) as usize];
+        for next in self.x..self.x1 {
+            let word = self.lookup.words[(row + next) as usize];
             if word != 0 {
                 if count == 0 {
                     index = word - 1;
                 }
                 if word - 1 != index + count {
-                    return Run {
-                        index,
-                        count,
-                        next: at,
-                    };
+                    return Run { index, count, next };
                 }
                 count += 1;
             }
@@ -138,19 +160,18 @@ impl Lookup<'_> {
         Run {
             index,
             count,
-            next: x1,
+            next: self.x1,
         }
     }
 
-    // The first run of a row's points from x on, in either form.
+    // Its first run of points, in either form.
     #[inline(always)]
-    pub fn next_run(&self, z: u32, y: u32, x: u32, x1: u32) -> Run
-        requires { (x < x1) × (x1 ≤ self.now.g) × (y < self.now.g) × (z < self.now.g) }
-        ensures { Ran self.now.file.now self.now.g z y x x1 result }
+    pub fn next_run(&self) -> Run
+        ensures { Ran self.now.lookup.file.bytes.now self.now.lookup.g self.now.z self.now.y self.now.x self.now.x1 result }
     {
-        match self.form {
-            Form::Marks => self.marked_run(z, y, x, x1),
-            Form::Words => self.worded_run(z, y, x, x1),
+        match self.lookup.form {
+            Form::Marks => self.marked_run(),
+            Form::Words => self.worded_run(),
         }
     }
 }

@@ -6,7 +6,7 @@ ghost use Rattle.rtm1.specs.Boxes.{Within};
 ghost use Rattle.rtm1.specs.Visit.{visit};
 ghost use Rattle.runs.specs.Left.{Reached, Starts, points_from};
 
-use crate::Lookup;
+use crate::{Lookup, Rest};
 use rtm1::Cells;
 
 // A cell.
@@ -41,8 +41,8 @@ impl<'a> Lookup<'a> {
     // The points of a box.
     pub fn runs(&self, b: Cells) -> Runs<'a>
         requires { Within self.now.g b }
-        ensures points { points_from (look result.lookup.file.now) result.lookup.g result.b result.at ≡ visit (look self.now.file.now) self.now.g b }
-        ensures file { result.lookup.file.now ≡ self.now.file.now }
+        ensures points { points_from (look result.lookup.file.bytes.now) result.lookup.g result.b result.at ≡ visit (look self.now.file.bytes.now) self.now.g b }
+        ensures file { result.lookup.file.bytes.now ≡ self.now.file.bytes.now }
     {
         let at = Place {
             z: b.z0,
@@ -61,8 +61,8 @@ impl Runs<'_> {
     // Where the next run starts: in the row, at the next row's first cell, or at the next plane's.
     #[inline(always)]
     fn start(&self) -> Option<Place>
-        ensures { MatchOption result (points_from (look self.now.lookup.file.now) self.now.lookup.g self.now.b self.now.at ≡ [])
-            (λ p. Starts (look self.now.lookup.file.now) self.now.lookup.g self.now.b self.now.at p) }
+        ensures { MatchOption result (points_from (look self.now.lookup.file.bytes.now) self.now.lookup.g self.now.b self.now.at ≡ [])
+            (λ p. Starts (look self.now.lookup.file.bytes.now) self.now.lookup.g self.now.b self.now.at p) }
     {
         let b = self.b;
         let at = self.at;
@@ -98,12 +98,19 @@ impl Iterator for Runs<'_> {
 
     #[inline(always)]
     fn next(&mut self) -> Option<Stretch> {
-        let Place { z, y, x } = self.start()?;
-        let r = self.lookup.next_run(z, y, x, self.b.x1);
-        self.at = Place { z, y, x: r.next };
+        let from = self.start()?;
+        let rest = Rest {
+            lookup: self.lookup,
+            z: from.z,
+            y: from.y,
+            x: from.x,
+            x1: self.b.x1,
+        };
+        let r = rest.next_run();
+        self.at = Place { x: r.next, ..from };
         Some(Stretch {
-            z,
-            y,
+            z: rest.z,
+            y: rest.y,
             index: r.index,
             count: r.count,
         })

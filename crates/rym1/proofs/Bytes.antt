@@ -3,12 +3,13 @@ use Prim.Native.Nat.{ℕ, zero, suc, ◌+◌, ◌-◌, ◌*◌, ◌/◌, ◌%◌
 use mathlib.Core.Path.{◌≡◌, refl, sym, ap, ◌∙◌}
 use mathlib.Core.List.{List, [], ◌∷◌, ◌++◌, append_assoc}
 use native.Mathlib.Nat.{add-zero, zero-add, suc-add, add_assoc, mul_comm, mul_assoc, pow-suc, mod-eq_of_lt, one-le-pow, div-one, div-div-eq-div-mul}
-use native.Mathlib.Numerals.{add-one, towards_suc}
+use native.Mathlib.Numerals.{add-one}
 use native.Mathlib.Omega.{arith}
 use lib.ListN.{length, get_or, set, take, drop, length-append, length-drop, take-append-drop, get_or-append}
 use lib.Seq.{sets, sets-eq, length-take-le, take_at, drop_at, take-append-le, drop-append-le, take-append-add, drop-append-add, drop-drop, take-add}
 use lib.Seq.{take-suc, take-take, drop-cons, get_or-take, get_or-drop, get_or-append-add}
 use lib.Arith.{digits_div, digits_mod, mod-mul}
+use borrow.Rule.Slice.PartMut.{put_mid}
 use Rattle.rym1.specs.Bytes.{word, le, words_bytes, splice}
 
 -- every element is a byte
@@ -267,13 +268,12 @@ pub stores : (s : List ℕ) (at : ℕ) (new : List ℕ) → at + length new ≤ 
 unfolding splice
 stores s at new h = sets-eq new s at h ∙ append_assoc (take at s) new (drop (at + length new) s)
 
--- as the code has them
-pub store3 : (s : List ℕ) (at a b c : ℕ) → at + 3 ≤ length s → set (set (set s at a) (at + 1) b) (at + 2) c ≡ splice s at (a ∷ b ∷ c ∷ [])
-store3 s at a b c h = simp towards_suc (stores s at (a ∷ b ∷ c ∷ []) h)
-
-pub store4 : (s : List ℕ) (at a b c d : ℕ) → at + 4 ≤ length s
-    → set (set (set (set s at a) (at + 1) b) (at + 2) c) (at + 3) d ≡ splice s at (a ∷ b ∷ c ∷ d ∷ [])
-store4 s at a b c d h = simp towards_suc (stores s at (a ∷ b ∷ c ∷ d ∷ []) h)
+-- a part of a slice put back, with what was written into it
+pub put_splice : (s new : List ℕ) (at k : ℕ) → length new ≡ k → put_mid at (at + k - at) s new ≡ splice s at new
+unfolding splice
+put_splice s new at k e =
+    let n : at + k - at ≡ k = omega arith in
+    rw (n, e, drop-drop k at s) refl
 
 -- two splices on end: the second right behind the first
 pub behind : (s : List ℕ) {s₁ s₂ : List ℕ} (at : ℕ) (u v : List ℕ) (k : ℕ) → at + length u + length v ≤ length s → at + length u ≡ k

@@ -7,10 +7,11 @@ use native.Mathlib.Omega.{arith}
 use lib.ListN.{length, get_or, set}
 use lib.Dec.{eqb, ltb}
 use borrow.Author.Tests.{ltb-false, eqb-true, eqb-false, not-false, lt-ltb, le-ltb, eq-eqb, ne_eqb}
+use borrow.Rule.Slice.PartMut.{put_mid}
 use Rattle.rym1.specs.Bytes.{splice}
 use Rattle.rym1.specs.Causes.{when}
 use Rattle.rym1.specs.Journal.{top, entries, most, entry_at, journal_cause, push_cause, pushed, popped}
-use Rattle.rym1.proofs.Bytes.{stores, store3, length_splice}
+use Rattle.rym1.proofs.Bytes.{stores, length_splice, put_splice}
 use Rattle.rym1.proofs.Causes.{or_false_l, or_false_r, when_zero}
 
 -- ---- 11
@@ -117,20 +118,20 @@ push_right j e ee h m = rw (← ee, next_at e, le-ltb (length j) (4 + 3 * e) h, 
 -- ---- an entry more, and one less, as the code stores them
 
 -- three words of an entry, then word 0
-entry_stores : (j : List ℕ) (e a b c n : ℕ) → 4 + 3 * e ≤ length j
-    → set (set (set (set j (1 + 3 * e) a) (1 + 3 * e + 1) b) (1 + 3 * e + 2) c) 0 n ≡ splice (splice j (1 + 3 * e) (a ∷ b ∷ c ∷ [])) 0 (n ∷ [])
-entry_stores j e a b c n h =
-    ap (λ (l : List ℕ). set l 0 n) (store3 j (1 + 3 * e) a b c (omega arith))
+entry_stores : (j new : List ℕ) (e a b c n : ℕ) → 4 + 3 * e ≤ length j → new ≡ a ∷ b ∷ c ∷ []
+    → set (put_mid (1 + 3 * e) (1 + 3 * e + 3 - (1 + 3 * e)) j new) 0 n ≡ splice (splice j (1 + 3 * e) (a ∷ b ∷ c ∷ [])) 0 (n ∷ [])
+entry_stores j new e a b c n h is =
+    ap (λ (l : List ℕ). set l 0 n) (put_splice j new (1 + 3 * e) 3 (ap length is) ∙ ap (splice j (1 + 3 * e)) is)
     ∙ stores (splice j (1 + 3 * e) (a ∷ b ∷ c ∷ [])) 0 (n ∷ []) (omega (arith, length_splice j (1 + 3 * e) (a ∷ b ∷ c ∷ []) (omega arith)))
 
-pub pushed_stores : (j : List ℕ) (e head cauchy elliptic : ℕ) → e ≡ entries j → 4 + 3 * entries j ≤ length j
-    → set (set (set (set j (1 + 3 * e) head) (1 + 3 * e + 1) cauchy) (1 + 3 * e + 2) elliptic) 0 (e + 1) ≡ pushed j (head ∷ cauchy ∷ elliptic ∷ [])
+pub pushed_stores : (j new : List ℕ) (e head cauchy elliptic : ℕ) → e ≡ entries j → 4 + 3 * entries j ≤ length j → new ≡ head ∷ cauchy ∷ elliptic ∷ []
+    → set (put_mid (1 + 3 * e) (1 + 3 * e + 3 - (1 + 3 * e)) j new) 0 (e + 1) ≡ pushed j (head ∷ cauchy ∷ elliptic ∷ [])
 unfolding pushed entry_at
-pushed_stores j e head cauchy elliptic ee h =
+pushed_stores j new e head cauchy elliptic ee h is =
     let more : e + 1 ≡ suc e = omega arith in
-    rw (← ee, more) (entry_stores j e head cauchy elliptic (suc e) (omega (arith, ee)))
+    rw (← ee, more) (entry_stores j new e head cauchy elliptic (suc e) (omega (arith, ee)) is)
 
-pub popped_stores : (j : List ℕ) (e : ℕ) → e ≡ entries j - 1 → 0 < entries j → 1 + 3 * entries j ≤ length j
-    → set (set (set (set j (1 + 3 * e) 0) (1 + 3 * e + 1) 0) (1 + 3 * e + 2) 0) 0 e ≡ popped j
+pub popped_stores : (j new : List ℕ) (e : ℕ) → e ≡ entries j - 1 → 0 < entries j → 1 + 3 * entries j ≤ length j → new ≡ 0 ∷ 0 ∷ 0 ∷ []
+    → set (put_mid (1 + 3 * e) (1 + 3 * e + 3 - (1 + 3 * e)) j new) 0 e ≡ popped j
 unfolding popped entry_at
-popped_stores j e ee pos h = rw (← ee) (entry_stores j e 0 0 0 e (omega (arith, ee)))
+popped_stores j new e ee pos h is = rw (← ee) (entry_stores j new e 0 0 0 e (omega (arith, ee)) is)

@@ -5,8 +5,8 @@ ghost use Rattle.std.proofs.Common.{lit≤};
 
 use crate::Case;
 use crate::parts::{BYTE, WORD, are_same_words, copy_words};
-use float::pattern::f32_from_bits;
 use number::answer_number;
+use std::num::f32_from_bits_with_nan;
 
 #[derive(Drop)]
 pub struct Edit;
@@ -18,8 +18,8 @@ fn act(case: &[u8], at: usize, file: &mut [u8], journal: &mut [u32]) -> u64
     let x = binary::u32_at(case, at + 4);
     let y = binary::u32_at(case, at + 8);
     let z = binary::u32_at(case, at + 12);
-    let cauchy = f32_from_bits(binary::u32_at(case, at + 16));
-    let elliptic = f32_from_bits(binary::u32_at(case, at + 20));
+    let cauchy = f32_from_bits_with_nan(binary::u32_at(case, at + 16));
+    let elliptic = f32_from_bits_with_nan(binary::u32_at(case, at + 20));
     answer_number(match binary::u32_at(case, at) {
         1 => edits::put(file, journal, x, y, z, cauchy, elliptic),
         2 => edits::remove(file, journal, x, y, z),

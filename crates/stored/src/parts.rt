@@ -11,13 +11,15 @@ pub const FLOAT: f64 = 0.5;
 pub fn copy_words(to: &mut [u32], case: &[u8], at: usize)
     requires { at + 4 * length to.old ≤ length case.now }
 {
-    for i in 0..to.len() {
-        to[i] = binary::u32_at(case, at + 4 * i);
+    for (word, bytes) in to.iter_mut().zip(case[at..].as_chunks::<4>().0) {
+        *word = u32::from_le_bytes(*bytes);
     }
 }
 
 pub fn are_same_words(left: &[u32], case: &[u8], at: usize) -> bool
     requires { at + 4 * length left.now ≤ length case.now }
 {
-    (0..left.len()).all(|i| left[i] == binary::u32_at(case, at + 4 * i))
+    left.iter()
+        .zip(case[at..].as_chunks::<4>().0)
+        .all(|(word, bytes)| *word == u32::from_le_bytes(*bytes))
 }

@@ -8,13 +8,14 @@ ghost use Rattle.std.specs.Prelude.{◌≡◌, ◌+◌, ◌≤◌, ◌<◌, leng
 ghost use Rattle.std.specs.Float.{binary32};
 ghost use Rattle.std.specs.Float.Ieee.{of_bits, nan_bits};
 ghost use Rattle.rym1.specs.Bytes.{word32};
-ghost use Rattle.rym1.specs.File.{count, file_cause};
+ghost use Rattle.rym1.specs.File.{count};
 ghost use Rattle.rym1.specs.Cells.{look};
 ghost use Rattle.rtm1.specs.Boxes.{Within};
 ghost use Rattle.rtm1.specs.Visit.{moved, shifted, with, total, nothing, visit};
 ghost use Rattle.rtm1.specs.Tree.{sums_of};
 ghost use Rattle.runs.specs.Walk.{points_of};
 
+use points::file::PointFile;
 use rtm1::{Cells, Sums};
 use runs::Lookup;
 use runs::walk::Stretch;
@@ -81,17 +82,16 @@ fn mass_at(file: &[u8], at: usize) -> f64
 }
 
 // The sums with a stretch of records.
-fn add_records(file: &[u8], s: Sums, r: Stretch) -> Sums
-    requires accepted { file_cause file.now ≡ 0 }
-    requires room { (r.index + r.count ≤ count file.now) × (s.count + r.count < 4294967296) }
-    ensures { result ≡ total s (points_of file.now r) }
+fn add_records(file: PointFile<'_>, s: Sums, r: Stretch) -> Sums
+    requires { (r.index + r.count ≤ count file.bytes.now) × (s.count + r.count < 4294967296) }
+    ensures { result ≡ total s (points_of file.entry.bytes.now r) }
 {
     let mut t = s;
     for index in r.index..r.index + r.count {
         let at = 64 + 16 * index as usize;
-        let x = binary::u16_at(file, at);
-        let cauchy = mass_at(file, at + 8);
-        let elliptic = mass_at(file, at + 12);
+        let x = binary::u16_at(file.bytes, at);
+        let cauchy = mass_at(file.bytes, at + 8);
+        let elliptic = mass_at(file.bytes, at + 12);
         t = with_point(t, x, r.y, r.z, cauchy, elliptic);
     }
     t
@@ -100,8 +100,8 @@ fn add_records(file: &[u8], s: Sums, r: Stretch) -> Sums
 // The sums of a box.
 pub fn sums_of(lookup: &Lookup<'_>, b: Cells) -> Sums
     requires { Within lookup.now.g b }
-    ensures value { result ≡ sums_of (look lookup.now.file.now) lookup.now.g b }
-    ensures counted { result.count ≡ length (visit (look lookup.now.file.now) lookup.now.g b) }
+    ensures value { result ≡ sums_of (look lookup.now.file.bytes.now) lookup.now.g b }
+    ensures counted { result.count ≡ length (visit (look lookup.now.file.bytes.now) lookup.now.g b) }
 {
     let mut t = nothing();
     for r in lookup.runs(b) {

@@ -50,7 +50,7 @@ fn middle_on(min: f64, cell: f64, n: u32) -> f64
     min + (n as f64 + 0.5) * cell
 }
 
-// The point of a cell, by the cell's number.
+// The point of a cell, by the cell's number. Of g: points/records.rt.
 #[tactic(auto, unfolding(filling::specs::Frame::middle))]
 pub fn middle(f: Frame, g: u32, c: u32) -> Vec3
     requires { 0 < g }

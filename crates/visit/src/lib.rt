@@ -18,11 +18,11 @@ ghost use Rattle.visit.specs.Visited.{raw_point, with_cell, Visiting};
 
 use density::density_at;
 use filling::{Bounds, Frame, Vec3};
-use float::pattern::f32_to_bits;
 use frame::middle;
 use inside::is_inside;
 use model::Mesh;
-use points::records::{cell_point, out_point};
+use points::records::{cell_point, cells, out_point};
+use std::num::f32_to_bits_with_nan;
 
 // How many points, the raw sums of their masses, and whether a mass is too large: no Option of the sums, since the points are counted on behind such a mass.
 #[derive(Clone, Copy)]
@@ -67,7 +67,12 @@ fn out_masses(out: &mut [u8], at: usize, g: u32, c: u32, cauchy: f64, elliptic: 
     let Some(second) = float::narrow(elliptic) else {
         return None;
     };
-    let point = cell_point(g, c, f32_to_bits(first), f32_to_bits(second));
+    let point = cell_point(
+        g,
+        c,
+        f32_to_bits_with_nan(first),
+        f32_to_bits_with_nan(second),
+    );
     out_point(out, at, point);
     Some(())
 }
@@ -93,22 +98,13 @@ fn add_cell(grid: &Grid, c: u32, p: Vec3, w: Found, out: &mut [u8]) -> Found
     }
 }
 
-// All cells.
-#[tactic(auto, unfolding(rym1::specs::File::cube))]
-fn cells_of(g: u32) -> u32
-    requires { g ≤ 256 }
-    ensures { result ≡ cube g }
-{
-    g * g * g
-}
-
-// Half the cells, rounded up.
-#[tactic(auto, using(rym1::proofs::Cells::cube_few), unfolding(filling::specs::Fill::capacity))]
+// Half the cells, rounded up. Of g: points/records.rt.
+#[tactic(auto, unfolding(filling::specs::Fill::capacity))]
 pub fn capacity_of(g: u32) -> u32
     requires { g ≤ 256 }
     ensures { result ≡ capacity g }
 {
-    (cells_of(g) + 1) / 2
+    (cells(g) as u32 + 1) / 2
 }
 
 // Visits all cells: the finds, or none where there are more points than half the cells.
@@ -126,7 +122,7 @@ pub fn visit_cells(grid: &Grid, floats: &mut [f64], out: &mut [u8]) -> Option<Fo
         elliptic: 0.0,
         large: false,
     };
-    for c in 0..cells_of(grid.g) {
+    for c in 0..cells(grid.g) as u32 {
         let p = middle(grid.f, grid.g, c);
         if !is_inside(grid.mesh, grid.b, p, floats) {
             continue;

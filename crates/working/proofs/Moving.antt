@@ -1,4 +1,4 @@
--- Laws of records within a buffer: one moved at each turn of a loop, one come or gone. Assumes nothing.
+-- Laws of records within a buffer: one come, one gone. Assumes nothing.
 use Prim.Native.Nat.{ℕ, suc, ◌+◌, ◌-◌, ◌*◌, ◌≤◌, ◌<◌}
 use mathlib.Core.Path.{◌≡◌, refl, sym, ap, ◌∙◌}
 use mathlib.Core.List.{List, ◌++◌, append_assoc}

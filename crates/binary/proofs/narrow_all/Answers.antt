@@ -3,7 +3,6 @@ use Prim.Native.Nat.{ℕ, ◌+◌}
 use mathlib.Core.Path.{◌≡◌, refl, sym, ap, ◌∙◌}
 use mathlib.Core.Bool.{not, true≢false}
 use native.Mathlib.Omega.{arith}
-use Rattle.std.specs.Prelude.{is_some}
 use lib.ListN.{length, take, set, length-set}
 use lib.Seq.{take_all, drop-length}
 use Rattle.float.specs.Narrow.{float_words, any_large}
@@ -34,7 +33,7 @@ loop-i-preserved c =
     let xs = c.args.xs.now in
     let n = c.narrow in
     let goes = finite_goes xs loop.i (omega arith) n.result n.ensures c.in-Some.v c.in-Some.is in
-    let word = c.f32_to_bits.ensures ∙ n.ensures.written c.in-Some.v c.in-Some.is in (
+    let word = c.f32_to_bits_with_nan.ensures ∙ n.ensures.written c.in-Some.v c.in-Some.is in (
       omega arith,
       length-set loop.words loop.i _ ∙ loop.invariant.1,
       ap (λ (w : ℕ). take (loop.i + 1) (set loop.words loop.i w)) word ∙ words_done loop.words xs loop.i (omega arith) (omega arith) loop.invariant.2,

@@ -2,11 +2,12 @@
 use mathlib.Core.Path.{refl, ap, ◌∙◌}
 use Rattle.rym1.specs.Causes.{told}
 use Rattle.rym1.specs.Journal.{pushed}
+use Rattle.journal.specs.Entry.{number}
 use Rattle.edits.proofs.Putting.{put_over_done}
 use Rattle.edits.proofs.put_over.Goals as goal
 
 pub returns : goal.returns
-unfolding told
+unfolding told number
 returns c =
     put_over_done c.args.file.now c.args.journal.now c.args.c c.args.i c.args.p
     c.requires.sound c.requires.own c.requires.spotted c.count-n.result c.u32_at-cauchy.result c.u32_at-elliptic.result _ _ _

@@ -1,15 +1,15 @@
--- `float::narrow` meets its contract: a NaN is told by `x != x`, and the pattern is that of the narrowed value. Assumes nothing.
+-- `float::narrow` meets its contract: a NaN is told, and the pattern is that of the narrowed value. Assumes nothing.
 use mathlib.Core.Path.{sym, subst}
 use lib.Dec.{T}
-use Rattle.float.proofs.Kit.{equals_itself, no_nan_bits}
+use Rattle.float.proofs.Kit.{no_nan, no_nan_bits}
 use Rattle.float.proofs.Large.{nan_large, pattern_large, pattern_finite, told}
 use Rattle.float.proofs.narrow.Goals as goal
 
-pub returns-then-x : goal.returns-then-x
-returns-then-x c = told c.args.x (subst T (sym c.well_formed.0.1) tt) _ (nan_large c.args.x c.if-x.true)
+pub returns-then-is_nan : goal.returns-then-is_nan
+returns-then-is_nan c = told c.args.x (subst T (sym c.well_formed.0.1) tt) _ (nan_large c.args.x c.is_nan.result c.is_nan.ensures.value c.if-is_nan.true)
 
 pub float_to_bits-x : goal.float_to_bits-x
-float_to_bits-x c = equals_itself c.args.x c.if-x.false
+float_to_bits-x c = no_nan c.args.x c.is_nan.result c.is_nan.ensures.value c.if-is_nan.false
 
 pub returns-then-not-is_finite : goal.returns-then-not-is_finite
 returns-then-not-is_finite c =
@@ -20,7 +20,7 @@ returns-then-not-is_finite c =
 pub float_from_bits-result : goal.float_from_bits-result
 float_from_bits-result c =
     let p = c.narrow_bits-pattern in
-    no_nan_bits c.args.x (subst T (sym c.well_formed.0.1) tt) p.result p.ensures (equals_itself c.args.x c.if-x.false)
+    no_nan_bits c.args.x (subst T (sym c.well_formed.0.1) tt) p.result p.ensures (no_nan c.args.x c.is_nan.result c.is_nan.ensures.value c.if-is_nan.false)
 
 pub returns : goal.returns
 returns c =

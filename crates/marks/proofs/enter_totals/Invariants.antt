@@ -4,4 +4,4 @@ use Rattle.marks.proofs.Entered.{Totalling}
 use Rattle.marks.proofs.enter_totals.Given as goal
 
 abbrev pub invariant-loop-i : goal.invariant-loop-i
-invariant-loop-i l = (length l.words ≡ length l.initial.words) × Totalling l.words l.file.bytes.now l.total l.i
+invariant-loop-i l = (length l.words ≡ length l.initial.words) × Totalling l.words l.fn.file.bytes.now l.total l.i

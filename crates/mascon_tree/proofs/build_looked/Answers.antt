@@ -32,13 +32,13 @@ build_mascon_node-requires-clause-space c =
     let ready = c.args.lookup.now.ready in
     let fit = root_fits _ _ c.frame_of-frame.ensures _ c.judge_tree.ensures c.in_ok-all.all c.in_ok-all.ensures.ok_part in
     space_as (sym (root_tree ready c.whole.ensures))
-    (root_room c.args.lookup.now.file.now c.args.out.now _ fit c.if-out-length.false c.frame_of-frame.result c.frame_of-frame.ensures (root_few ready c.whole.ensures) (root_short ready c.whole.ensures) c.out_words.new.out c.out_words.auto.out)
+    (root_room c.args.lookup.now.file.bytes.now c.args.out.now _ fit c.if-out-length.false c.frame_of-frame.result c.frame_of-frame.ensures (root_few ready c.whole.ensures) (root_short ready c.whole.ensures) c.out_words.new.out c.out_words.auto.out)
 
 pub returns : goal.returns
 returns c =
     let fit = root_fits _ _ c.frame_of-frame.ensures _ c.judge_tree.ensures c.in_ok-all.all c.in_ok-all.ensures.ok_part in
     let header = c.out_words in
     let wrote = c.build_mascon_node in
-    way_done c.args.lookup.now.file.now c.args.out.now _ fit c.if-out-length.false c.frame_of-frame.result c.frame_of-frame.ensures
+    way_done c.args.lookup.now.file.bytes.now c.args.out.now _ fit c.if-out-length.false c.frame_of-frame.result c.frame_of-frame.ensures
     header.new.out wrote.new.out _ (header.ensures ∙ ap (λ (ws : List ℕ). splice c.args.out.now 0 (words_bytes ws)) c.header_words.ensures)
     (written_as (root_tree c.args.lookup.now.ready c.whole.ensures) c.in_ok-last.ensures.ok_part wrote.ensures)

@@ -1,6 +1,5 @@
 -- `row::answers` meets its contract: each region is sorted in its place, and those behind it stay. Assumes nothing.
 use borrow.Rule.Slice.PartMut.{mid_len}
-use lib.Seq.{get_or-set_other}
 use Prim.Native.Nat.{◌≤◌, ◌<◌, ◌-◌, ◌+◌, ◌*◌}
 use mathlib.Core.Path.{◌≡◌, ◌∙◌, ap}
 use mathlib.Core.List.{List}
@@ -17,10 +16,11 @@ loop-q-preserved c =
     let turn = c.loop-q in
     let q = turn.q in
     let len = c.args.len in
+    let n = length c.args.out.now in
     let ks = c.args.counts.now in
-    let low : q < c.args.n = omega arith in
+    let low : q < n = omega arith in
     let few = c.requires.few q low in
-    let g = apart q c.args.n len low in
+    let g = apart q n len low in
     let fits : q * len + get_or ks q 0 ≤ length turn.fl = omega (arith, c.requires.room) in
     let under : q * len ≤ length turn.fl = omega arith in
     let made = c.answer in
@@ -32,6 +32,5 @@ loop-q-preserved c =
     let value : made.result ≡ yes (odd_rest (region fl₀ ks len q)) =
     made.ensures ∙ ap (λ (l : List Float). yes (odd_rest l)) (region_lent turn.fl ks len q ∙ turn.invariant.ahead q (omega arith)) in record {
       answered = answer_step out q made.result (λ p. yes (odd_rest (region fl₀ ks len p))) room value turn.invariant.answered;
-      rest = λ p l. get_or-set_other out q p made.result 0 (λ x. omega arith) ∙ turn.invariant.rest p (omega arith);
-      ahead = λ p l. region_kept turn.fl last ks len c.args.n q p (omega arith) few fits long ∙ turn.invariant.ahead p (omega arith);
+      ahead = λ p l. region_kept turn.fl last ks len n q p (omega arith) few fits long ∙ turn.invariant.ahead p (omega arith);
     }

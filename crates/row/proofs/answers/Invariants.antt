@@ -8,6 +8,5 @@ use Rattle.row.proofs.answers.Given as goal
 abbrev pub invariant-loop-q : goal.invariant-loop-q
 invariant-loop-q l = record {
   answered : (p : ℕ) → p < l.q → get_or l.out p 0 ≡ yes (odd_rest (region l.initial.fl l.counts l.len p));
-  rest : (p : ℕ) → l.q ≤ p → get_or l.out p 0 ≡ get_or l.initial.out p 0;
   ahead : (p : ℕ) → l.q ≤ p → region l.fl l.counts l.len p ≡ region l.initial.fl l.counts l.len p;
 }

@@ -5,29 +5,18 @@ use mathlib.Core.List.{List, ◌++◌, append-nil}
 use lib.ListN.{get_or}
 use lib.Ieee.{Float, nan}
 use Rattle.filling.specs.Inside.{listed}
-use Rattle.filling.specs.Rows.{triangle_of}
 use Rattle.row.specs.Row.{region, point_of}
-use Rattle.row.proofs.Laws.{missed_at, up_to_is}
+use Rattle.row.proofs.Laws.{missed_up_to}
 use Rattle.row.proofs.entry.Goals as goal
 
-pub skips_row-requires-clause-good : goal.skips_row-requires-clause-good
-unfolding triangle_of
-skips_row-requires-clause-good c = c.requires.good
-
 pub returns-then-skips_row-clause-regions : goal.returns-then-skips_row-clause-regions
-unfolding triangle_of point_of
+unfolding point_of
 returns-then-skips_row-clause-regions c q l =
     let row = c.args.row.now in
     let skip = c.skips_row.ensures c.if-skips_row.true in
     let old : List Float = region c.args.fl.now c.args.counts.now c.args.len q in
     sym (ap (λ (x : Crossing). old ++ listed x)
-    (missed_at c.args.s.now row.b row.y row.z row.xs.now c.args.i q (skip.1 (get_or row.xs.now q nan) ((row.within skip.0).on_x_law q l))) ∙ append-nil old)
+    (missed_up_to _ _ row.y row.z row.xs.now row.ix.now q (skip.1 (get_or row.xs.now q nan) ((row.within skip.0).on_x_law q l))) ∙ append-nil old)
 
 pub returns-clause-regions : goal.returns-clause-regions
-unfolding triangle_of
-returns-clause-regions c q l =
-    let row = c.args.row.now in
-    let old : List Float = region c.args.fl.now c.args.counts.now c.args.len q in
-    c.at_points.ensures.regions q l
-    ∙ ap (λ (x : Crossing). old ++ listed x)
-    (up_to_is c.args.s.now row.b row.y row.z row.xs.now row.ix.now c.args.i c.upper_x.result c.triangle_at-t.result c.triangle_at-t.ensures c.upper_x.ensures row.indexed q l)
+returns-clause-regions c q l = rw (c.ranges_of.ensures, c.read-t.ensures) at c.at_points.ensures.regions q l

@@ -7,28 +7,28 @@ use Rattle.sums.proofs.add_records.Goals as goal
 
 pub u16_at-x-requires : goal.u16_at-x-requires
 u16_at-x-requires c =
-    let there = record_there c.args.file.now _ c.loop-index.index c.requires.accepted (omega (arith, c.requires.room.0)) refl in
+    let there = record_there c.args.file.bytes.now _ c.loop-index.index c.args.file.accepted (omega (arith, c.requires.0)) refl in
     omega (arith, there)
 
 pub mass_at-cauchy-requires : goal.mass_at-cauchy-requires
 mass_at-cauchy-requires c =
-    let there = record_there c.args.file.now _ c.loop-index.index c.requires.accepted (omega (arith, c.requires.room.0)) refl in
-    (omega (arith, there), (masses_finite_law c.args.file.now _ c.loop-index.index c.requires.accepted (omega (arith, c.requires.room.0)) refl).0)
+    let there = record_there c.args.file.bytes.now _ c.loop-index.index c.args.file.accepted (omega (arith, c.requires.0)) refl in
+    (omega (arith, there), (masses_finite_law c.args.file.bytes.now _ c.loop-index.index c.args.file.accepted (omega (arith, c.requires.0)) refl).0)
 
 pub mass_at-elliptic-requires : goal.mass_at-elliptic-requires
 mass_at-elliptic-requires c =
-    let there = record_there c.args.file.now _ c.loop-index.index c.requires.accepted (omega (arith, c.requires.room.0)) refl in
-    (omega (arith, there), (masses_finite_law c.args.file.now _ c.loop-index.index c.requires.accepted (omega (arith, c.requires.room.0)) refl).1)
+    let there = record_there c.args.file.bytes.now _ c.loop-index.index c.args.file.accepted (omega (arith, c.requires.0)) refl in
+    (omega (arith, there), (masses_finite_law c.args.file.bytes.now _ c.loop-index.index c.args.file.accepted (omega (arith, c.requires.0)) refl).1)
 
 pub loop-index-preserved : goal.loop-index-preserved
 loop-index-preserved c =
     let a = c.args in
     let l = c.loop-index in
-    adding_turn a.file.now a.r.z a.r.y (a.r.index + a.r.count) a.s a.r.index l.t c.with_point-t.result _ l.index c.u16_at-x.result c.mass_at-cauchy.result c.mass_at-elliptic.result c.loop-index-test.true refl
+    adding_turn a.file.bytes.now a.r.z a.r.y (a.r.index + a.r.count) a.s a.r.index l.t c.with_point-t.result _ l.index c.u16_at-x.result c.mass_at-cauchy.result c.mass_at-elliptic.result c.loop-index-test.true refl
     c.u16_at-x.ensures.0 c.mass_at-cauchy.ensures c.mass_at-elliptic.ensures c.with_point-t.ensures l.invariant
 
 pub returns : goal.returns
 returns c =
     let a = c.args in
     let l = c.loop-index in
-    adding_end a.file.now a.r.z a.r.y (a.r.index + a.r.count) a.s a.r.index a.r.count l.t l.index refl c.loop-index-test.false l.invariant
+    adding_end a.file.bytes.now a.r.z a.r.y (a.r.index + a.r.count) a.s a.r.index a.r.count l.t l.index refl c.loop-index-test.false l.invariant

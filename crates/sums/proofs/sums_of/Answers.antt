@@ -12,12 +12,12 @@ use Rattle.runs.specs.Walk.{left, points_of}
 use Rattle.sums.proofs.Turns.{sums_on, sums_fit, sums_end}
 use Rattle.sums.proofs.sums_of.Goals as goal
 
-pub add_records-t-requires-clause-room : goal.add_records-t-requires-clause-room
-add_records-t-requires-clause-room c =
+pub add_records-t-requires : goal.add_records-t-requires
+add_records-t-requires c =
     let a = c.args in
     let l = c.loop-r in
     let p = c.in-Some.r in
-    let f = a.lookup.now.file.now in
+    let f = a.lookup.now.file.bytes.now in
     let first = first_points f l.r-iterator c.next.new.self p l.invariant.2 c.in-Some.ensures.steps in
     let fit = sums_fit l.t _ (left l.r-iterator) (points_of f p) (left c.next.new.self) first l.invariant.3 (look f) a.lookup.now.g a.b refl c.requires (grid_few a.lookup.now.ready) in
     (in_file f l.r-iterator c.next.new.self p l.invariant.2 c.in-Some.ensures.steps, omega (arith, fit, length_placed f p.z p.y p.index p.count))
@@ -27,7 +27,7 @@ loop-r-preserved c =
     let a = c.args in
     let l = c.loop-r in
     let p = c.in-Some.r in
-    let f = a.lookup.now.file.now in
+    let f = a.lookup.now.file.bytes.now in
     let first = first_points f l.r-iterator c.next.new.self p l.invariant.2 c.in-Some.ensures.steps in
     (tt, tt, same_file f l.r-iterator c.next.new.self p l.invariant.2 c.in-Some.ensures.steps, sums_on l.t _ _ _ _ first l.invariant.3 c.add_records-t.result c.add_records-t.ensures)
 
@@ -38,4 +38,4 @@ pub returns-clause-counted : goal.returns-clause-counted
 returns-clause-counted c =
     let a = c.args in
     let all = sums_end c.loop-r.t _ _ c.in-None.ensures.steps.step c.loop-r.invariant.3 in
-    ap (λ (t : Sums). t.count) all ∙ (total_count nothing (visit (look a.lookup.now.file.now) a.lookup.now.g a.b) ∙ zero-add _)
+    ap (λ (t : Sums). t.count) all ∙ (total_count nothing (visit (look a.lookup.now.file.bytes.now) a.lookup.now.g a.b) ∙ zero-add _)

@@ -11,6 +11,6 @@ returns-clause-told c =
 
 pub returns-clause-written : goal.returns-clause-written
 returns-clause-written c =
-    let first = c.f32_to_bits.ensures ∙ c.narrow.ensures.written c.in-Some.first c.in-Some.is in
-    let second = c.f32_to_bits-2.ensures ∙ c.narrow-2.ensures.written c.in-Some-narrow.second c.in-Some-narrow.is in
+    let first = c.f32_to_bits_with_nan.ensures ∙ c.narrow.ensures.written c.in-Some.first c.in-Some.is in
+    let second = c.f32_to_bits_with_nan-2.ensures ∙ c.narrow-2.ensures.written c.in-Some-narrow.second c.in-Some-narrow.is in
     c.out_point.ensures ∙ (rw (← first, ← second, ← c.cell_point-point.ensures) refl)

@@ -36,7 +36,7 @@ returns-in_err-scale_masses c =
     let scale = ap (λ (x : Float). finite (float_word x)) (sym c.scale_of.ensures) ∙ word_small _ c.in-Some.l n.result n.ensures c.in-Some.is in
     let floats = ap (λ (l : List Float). all_finite (float_words l)) (sym hf) ∙ all.tells in
     let k = ap (λ (l : List ℕ). get_or l 2 0) (all.written refl ∙ ap float_words hf) ∙ scale_word a.f a.w a.target a.density in
-    let l = c.f32_to_bits.ensures ∙ n.ensures.written c.in-Some.l c.in-Some.is ∙ ap float_word c.scale_of.ensures in
+    let l = c.f32_to_bits_with_nan.ensures ∙ n.ensures.written c.in-Some.l c.in-Some.is ∙ ap float_word c.scale_of.ensures in
     rw c.from_residual-in_err-scale_masses.ensures (by_masses a.f a.w a.target a.density a.out.now scale floats _ _ k l ∙ sym c.in_err-scale_masses.ensures.0)
 
 pub returns : goal.returns
@@ -49,7 +49,7 @@ returns c =
     let floats = ap (λ (l : List Float). all_finite (float_words l)) (sym hf) ∙ all.tells in
     let words = all.written refl ∙ ap float_words hf in
     let k = ap (λ (l : List ℕ). get_or l 2 0) words ∙ scale_word a.f a.w a.target a.density in
-    let l = c.f32_to_bits.ensures ∙ n.ensures.written c.in-Some.l c.in-Some.is ∙ ap float_word c.scale_of.ensures in
+    let l = c.f32_to_bits_with_nan.ensures ∙ n.ensures.written c.in-Some.l c.in-Some.is ∙ ap float_word c.scale_of.ensures in
     let s = c.in_ok-scale_masses.ensures in (
       by_masses a.f a.w a.target a.density a.out.now scale floats _ _ k l ∙ sym s.0,
       words,

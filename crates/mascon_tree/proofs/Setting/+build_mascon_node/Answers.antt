@@ -21,21 +21,21 @@ out_empty-requires t c = node_room _ _ _ _ _ _ _ c.requires.space
 pub returns-in-Empty : goal.returns-in-Empty
 returns-in-Empty t c =
     let set = c.args.self.now in
-    let k = kind_is (look set.lookup.file.now) set.lookup.g c.args.b c.sums_of-s.result c.sums_of-s.ensures.counted c.kind_of.ensures c.in-Empty.is in
-    let tree = tree_empty (look set.lookup.file.now) set.lookup.g c.args.b k in
+    let k = kind_is (look set.lookup.file.bytes.now) set.lookup.g c.args.b c.sums_of-s.result c.sums_of-s.ensures.counted c.kind_of.ensures c.in-Empty.is in
+    let tree = tree_empty (look set.lookup.file.bytes.now) set.lookup.g c.args.b k in
     written_as (sym tree) refl
-    (written_empty _ _ (start set.order) _ _ _ _ _ _ _ (c.sums_of-s.ensures.value ∙ empty_sums (look set.lookup.file.now) set.lookup.g c.args.b k) (space_as tree c.requires.space) c.out_empty.ensures)
+    (written_empty _ _ (start set.order) _ _ _ _ _ _ _ (c.sums_of-s.ensures.value ∙ empty_sums (look set.lookup.file.bytes.now) set.lookup.g c.args.b k) (space_as tree c.requires.space) c.out_empty.ensures)
 
 pub invariant_of-root-in-Leaf : goal.invariant_of-root-in-Leaf
 invariant_of-root-in-Leaf t c = record { within = within_most _ c.args.b (grid_few c.args.self.now.lookup.ready) c.requires.within; low = node_low _ _ _ _ _ _ _ c.requires.space }
 
 pub out_leaf-requires-clause-space : goal.out_leaf-requires-clause-space
 out_leaf-requires-clause-space t c =
-    space_as (leafed (look c.args.self.now.lookup.file.now) _ _ _ c.sums_of-s.ensures.value c.sums_of-s.ensures.counted c.kind_of.ensures c.in-Leaf.is) c.requires.space
+    space_as (leafed (look c.args.self.now.lookup.file.bytes.now) _ _ _ c.sums_of-s.ensures.value c.sums_of-s.ensures.counted c.kind_of.ensures c.in-Leaf.is) c.requires.space
 
 pub returns-in-Leaf : goal.returns-in-Leaf
 returns-in-Leaf t c =
-    written_as (sym (leafed (look c.args.self.now.lookup.file.now) _ _ _ c.sums_of-s.ensures.value c.sums_of-s.ensures.counted c.kind_of.ensures c.in-Leaf.is)) refl c.out_leaf.ensures
+    written_as (sym (leafed (look c.args.self.now.lookup.file.bytes.now) _ _ _ c.sums_of-s.ensures.value c.sums_of-s.ensures.counted c.kind_of.ensures c.in-Leaf.is)) refl c.out_leaf.ensures
 
 pub overflow_add-node : goal.overflow_add-node
 overflow_add-node t c =
@@ -43,26 +43,26 @@ overflow_add-node t c =
 
 pub build_mascon_node-requires : goal.build_mascon_node-requires
 build_mascon_node-requires t c =
-    let two = halved (look c.args.self.now.lookup.file.now) _ _ _ _ _ c.requires.within c.sums_of-s.ensures.value c.sums_of-s.ensures.counted c.kind_of.ensures c.in-Split.is c.halves-half.ensures in
+    let two = halved (look c.args.self.now.lookup.file.bytes.now) _ _ _ _ _ c.requires.within c.sums_of-s.ensures.value c.sums_of-s.ensures.counted c.kind_of.ensures c.in-Split.is c.halves-half.ensures in
     (omega (arith, c.decreases, two.low_fewer), (two.low, room_low _ _ _ _ _ _ _ _ _ _ (space_as two.tree c.requires.space)))
 
 pub returns-in_err-l-in-Split : goal.returns-in_err-l-in-Split
 returns-in_err-l-in-Split t c =
-    let two = halved (look c.args.self.now.lookup.file.now) _ _ _ _ _ c.requires.within c.sums_of-s.ensures.value c.sums_of-s.ensures.counted c.kind_of.ensures c.in-Split.is c.halves-half.ensures in
+    let two = halved (look c.args.self.now.lookup.file.bytes.now) _ _ _ _ _ c.requires.within c.sums_of-s.ensures.value c.sums_of-s.ensures.counted c.kind_of.ensures c.in-Split.is c.halves-half.ensures in
     let first = c.build_mascon_node in
     written_as (sym two.tree) (sym c.from_residual.ensures)
     (split_low _ _ _ _ _ _ _ _ _ _ (space_as two.tree c.requires.space) first.new.out (written_as refl c.in_err-l-in-Split.was first.ensures))
 
 pub build_mascon_node-requires-in-Split : goal.build_mascon_node-requires-in-Split
 build_mascon_node-requires-in-Split t c =
-    let two = halved (look c.args.self.now.lookup.file.now) _ _ _ _ _ c.requires.within c.sums_of-s.ensures.value c.sums_of-s.ensures.counted c.kind_of.ensures c.in-Split.is c.halves-half.ensures in
+    let two = halved (look c.args.self.now.lookup.file.bytes.now) _ _ _ _ _ c.requires.within c.sums_of-s.ensures.value c.sums_of-s.ensures.counted c.kind_of.ensures c.in-Split.is c.halves-half.ensures in
     let first = c.build_mascon_node in
     let l = c.in_ok-l-in-Split in
     (omega (arith, c.decreases, two.high_fewer), (two.high, room_high _ _ _ _ _ _ _ _ _ _ (space_as two.tree c.requires.space) _ l.l first.auto.out (sym l.was ∙ first.ensures.judged)))
 
 pub returns-in_err-r-in-Split : goal.returns-in_err-r-in-Split
 returns-in_err-r-in-Split t c =
-    let two = halved (look c.args.self.now.lookup.file.now) _ _ _ _ _ c.requires.within c.sums_of-s.ensures.value c.sums_of-s.ensures.counted c.kind_of.ensures c.in-Split.is c.halves-half.ensures in
+    let two = halved (look c.args.self.now.lookup.file.bytes.now) _ _ _ _ _ c.requires.within c.sums_of-s.ensures.value c.sums_of-s.ensures.counted c.kind_of.ensures c.in-Split.is c.halves-half.ensures in
     let first = c.build_mascon_node in
     let second = c.build_mascon_node-in-Split in
     let l = c.in_ok-l-in-Split in
@@ -80,7 +80,7 @@ out_split-requires t c =
 
 pub returns-in_ok-r-in-Split : goal.returns-in_ok-r-in-Split
 returns-in_ok-r-in-Split t c =
-    let two = halved (look c.args.self.now.lookup.file.now) _ _ _ _ _ c.requires.within c.sums_of-s.ensures.value c.sums_of-s.ensures.counted c.kind_of.ensures c.in-Split.is c.halves-half.ensures in
+    let two = halved (look c.args.self.now.lookup.file.bytes.now) _ _ _ _ _ c.requires.within c.sums_of-s.ensures.value c.sums_of-s.ensures.counted c.kind_of.ensures c.in-Split.is c.halves-half.ensures in
     let first = c.build_mascon_node in
     let second = c.build_mascon_node-in-Split in
     let last = c.out_split in

@@ -7,6 +7,6 @@ use Rattle.points.proofs.judge.is_below.Goals as goal
 pub returns : goal.returns
 unfolding below box_min box_max
 returns c =
-    let min = c.f32_from_bits-min.ensures ∙ ap (of_bits binary32) c.u32_at.ensures in
-    let max = c.f32_from_bits-max.ensures ∙ ap (of_bits binary32) c.u32_at-2.ensures in
+    let min = c.f32_from_bits_with_nan-min.ensures ∙ ap (of_bits binary32) c.u32_at.ensures in
+    let max = c.f32_from_bits_with_nan-max.ensures ∙ ap (of_bits binary32) c.u32_at-2.ensures in
     (λ i. lt (min i) (max i))

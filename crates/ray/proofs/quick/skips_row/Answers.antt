@@ -6,5 +6,5 @@ use Rattle.ray.proofs.quick.skips_row.Goals as goal
 pub returns-then-near : goal.returns-then-near
 returns-then-near c =
     let yes = c.if-near.true in
-    let near = c.requires.within yes in
-    λ e. (yes, λ x h. row_misses x _ c.args.y c.args.z _ c.requires.good near.0 near.1 h (sym c.quick_miss.ensures ∙ e))
+    let near = c.requires yes in
+    λ e. (yes, λ x h. row_misses x _ c.args.y c.args.z _ c.args.t.good near.0 near.1 h (sym c.quick_miss.ensures ∙ e))

@@ -13,7 +13,7 @@ out_records-at-requires c =
     let a = c.args in
     let l = c.loop-r in
     let p = c.in-Some.r in
-    let f = a.lookup.now.file.now in
+    let f = a.lookup.now.file.bytes.now in
     let first = first_points f l.r-iterator c.next.new.self p l.invariant.2 c.in-Some.ensures.steps in
     let room = room_on (visit (look f) a.lookup.now.g a.b) a.out.now a.from c.requires.room l.out l.at (left l.r-iterator) (points_of f p) (left c.next.new.self) first l.invariant.3 in
     omega (arith, room, length_placed f p.z p.y p.index p.count)
@@ -24,7 +24,7 @@ loop-r-preserved c =
     let l = c.loop-r in
     let p = c.in-Some.r in
     let w = c.out_records-at in
-    let f = a.lookup.now.file.now in
+    let f = a.lookup.now.file.bytes.now in
     let first = first_points f l.r-iterator c.next.new.self p l.invariant.2 c.in-Some.ensures.steps in (
       tt,
       tt,
@@ -39,4 +39,4 @@ shape_of-out c = c.loop-r.invariant.3.long
 pub returns : goal.returns
 returns c =
     let a = c.args in
-    storing_end (visit (look a.lookup.now.file.now) a.lookup.now.g a.b) a.out.now a.from _ c.loop-r.out c.loop-r.at c.in-None.ensures.steps.step c.loop-r.invariant.3
+    storing_end (visit (look a.lookup.now.file.bytes.now) a.lookup.now.g a.b) a.out.now a.from _ c.loop-r.out c.loop-r.at c.in-None.ensures.steps.step c.loop-r.invariant.3

@@ -8,5 +8,5 @@ use Rattle.sums.proofs.ordered.out_order.Given as goal
 abbrev pub invariant-loop-r : goal.invariant-loop-r
 invariant-loop-r l =
     (goal.iterator-loop-r).can_next l.r-iterator × (goal.iterator-loop-r).is_finite l.r-iterator
-    × (file_of l.r-iterator ≡ l.lookup.file.now)
-    × Storing (visit (look l.lookup.file.now) l.lookup.g l.fn.b) l.initial.out l.from (left l.r-iterator) l.out l.at
+    × (file_of l.r-iterator ≡ l.lookup.file.bytes.now)
+    × Storing (visit (look l.lookup.file.bytes.now) l.lookup.g l.fn.b) l.initial.out l.from (left l.r-iterator) l.out l.at

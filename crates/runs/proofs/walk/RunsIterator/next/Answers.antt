@@ -9,11 +9,11 @@ use Rattle.runs.proofs.walk.RunsIterator.next.Goals as goal
 pub returns-clause-steps : goal.returns-clause-steps
 returns-clause-steps c =
     let s = c.args.self.now in
-    record { step = (run_points s.lookup.file.now s.lookup.g s.b s.at c.in_ok-z.field-0 c.in_ok-z.ensures c.next_run-r.result c.next_run-r.ensures, c.next_run-r.ensures.in_file); same = refl }
+    record { step = (run_points s.lookup.file.bytes.now s.lookup.g s.b s.at c.in_ok-from.from c.in_ok-from.ensures c.next_run-r.result c.next_run-r.ensures, c.next_run-r.ensures.in_file); same = refl }
 
 pub returns-clause-goes : goal.returns-clause-goes
 returns-clause-goes c =
     let s = c.args.self.now in
-    let fewer : cells_from s.b (record { z = c.in_ok-z.field-0.z; y = c.in_ok-z.field-0.y; x = c.next_run-r.result.next }) < cells_from s.b s.at =
-    run_fewer s.lookup.file.now s.lookup.g s.b s.at c.in_ok-z.field-0 c.in_ok-z.ensures c.next_run-r.result c.next_run-r.ensures in
+    let fewer : cells_from s.b (record { z = c.in_ok-from.from.z; y = c.in_ok-from.from.y; x = c.next_run-r.result.next }) < cells_from s.b s.at =
+    run_fewer s.lookup.file.bytes.now s.lookup.g s.b s.at c.in_ok-from.from c.in_ok-from.ensures c.next_run-r.result c.next_run-r.ensures in
     record { on = λ fin. (tt, tt, fewer); keeps = search rules; rests = search rules }

@@ -1,8 +1,8 @@
--- `lookup::cells` meets its contract. Assumes nothing.
+-- `points::records::cells` meets its contract. Assumes nothing.
 use mathlib.Core.Path.{refl}
 use Rattle.rym1.specs.File.{cube}
 use Rattle.rym1.proofs.Cells.{cube_few}
-use Rattle.lookup.proofs.cells.Goals as goal
+use Rattle.points.proofs.records.cells.Goals as goal
 
 pub returns : goal.returns
 unfolding cube
