@@ -1,7 +1,8 @@
-// Little-endian numbers in a slice of bytes (binary.rs, and the closures u16_at and u32_at of mascon_tree.rs).
+// Little-endian numbers in a slice of bytes (binary.rs, and the closures u16_at and u32_at of mascon_tree.rs). A slice and a place in it, here and in what reads by these: of a part cut out its
+// length would have to be shown at every read. Three sizes, each by the library's reader and writer of its type.
 #![tactic(auto)]
 
-ghost use Rattle.std.specs.Prelude.{◌≡◌, false, ◌+◌, ◌*◌, ◌≤◌, ◌<◌, length, replicate};
+ghost use Rattle.std.specs.Prelude.{◌≡◌, false, ◌+◌, ◌*◌, ◌≤◌, ◌<◌, length};
 ghost use Rattle.std.specs.Float.{binary64};
 ghost use Rattle.std.specs.Float.Ieee.{of_bits, nan_bits};
 ghost use Rattle.binary.specs.Words.{Narrowing};
@@ -69,7 +70,7 @@ pub fn out_u64(s: &mut [u8], at: usize, value: u64)
     s[at..at + 8].copy_from_slice(&value.to_le_bytes());
 }
 
-// The words of some numbers; none where one is too large, and up to that one they are written.
+// The words of some numbers; none where one is too large, and up to that one they are written. let .. else: docs/DECISIONS.md 97.
 pub fn narrow_all(xs: &[f64], words: &mut [u32]) -> Option<()>
     requires { length words.old ≡ length xs.now }
     ensures { Narrowing xs.now result words.new }

@@ -24,7 +24,8 @@ pub fn whole(g: u32) -> Cells
     }
 }
 
-// That a box has cells (`Proper`) stays a clause: `Cells` is the definitions' type, and the root box of a grid of 0 has none.
+// That a box has cells (`Proper`) stays a clause: `Cells` is the definitions' type, the root box of a grid of 0 has none, and a type round it would be taken off again by each of these.
+
 // What a box of n points becomes.
 #[tactic(auto, unfolding(rtm1::specs::Tree::kind_of))]
 pub fn kind_of(n: u32, b: Cells) -> Kind
@@ -72,7 +73,7 @@ pub struct Pair {
     pub high: Cells,
 }
 
-// The two halves along the widest axis.
+// The two halves along the widest axis. An arm an axis, as the ends have names.
 pub fn halves(b: Cells) -> Pair
     requires { Proper b }
     ensures { (result.low ≡ lower (widest b) b) × (result.high ≡ upper (widest b) b) }

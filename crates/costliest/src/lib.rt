@@ -22,7 +22,7 @@ use rym1::{Cause, Point};
 // 1 as a float's pattern.
 const UNIT: u32 = 0x3f80_0000;
 
-// A box's widths.
+// A box's widths. That a box has cells, or lies in the greatest grid, is a clause here: as a type each half would be wrapped at every step of the recursion.
 #[derive(Clone, Copy, PartialEq)]
 struct Widths {
     x: u32,
@@ -91,7 +91,7 @@ pub fn costliest(g: u32) -> Result<Cost, Cause>
     })
 }
 
-// The header's words. Of g, here and below: points/records.rt.
+// The header's words. Why g is a plain number, here and below: points/records.rt.
 #[tactic(auto, unfolding(rtm1::specs::Costliest::costliest_header))]
 fn header_words(g: u32) -> [u32; 16]
     requires { g ≤ 256 }

@@ -22,7 +22,7 @@ impl Rect {
     ghost use Rattle.counting.specs.Rectangle.{in_rect, bits_to};
 
     // The pairs of its row k, from the first number up to the second. Both walks are `for k in lk..hk + 1`: a method that takes what to do there
-    // as a closure would be no plainer, as its contract would have to carry each walk's invariant through an `FnMut`'s steps.
+    // as a closure, or an iterator of the rows, would be no plainer, as its contract would have to carry each walk's invariant through its steps.
     pub fn row(&self, k: usize) -> (usize, usize)
         requires { k < AXIS }
         ensures low { result.0 ≡ k * AXIS + self.now.lj }

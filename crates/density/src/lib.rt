@@ -1,7 +1,7 @@
 // The density of kernels at a point (density.rs, alpha exactly 1), and the lists of kernels that are lent as little-endian bytes.
 #![tactic(auto)]
 
-ghost use Rattle.std.specs.Prelude.{◌≡◌, ℕ, ◌+◌, ◌≤◌, length};
+ghost use Rattle.std.specs.Prelude.{◌≡◌, ◌+◌, ◌≤◌, length};
 ghost use Rattle.std.proofs.Common.{rules};
 ghost use Rattle.filling.specs.Lists.{kernel, kernels, good_kernel, kernels_wrong};
 ghost use Rattle.filling.specs.Density.{weight, density_at};

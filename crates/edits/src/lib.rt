@@ -1,8 +1,8 @@
-// Edits of a file in working form: put, remove, undo. File and journal are two parameters, and no struct whose ghost fact is `Sound`: it would have to be
-// proved of the file between the write of a record and that of its entry, which no contract asks.
+// Edits of a file in working form: put, remove, undo. File and journal are two parameters, and what is asked of both (`Sound`, room for an entry, the cell's place) are clauses: as a ghost field of a
+// struct it would have to hold between the write of a record and that of its entry, when it does not.
 #![tactic(auto)]
 
-ghost use Rattle.std.specs.Prelude.{◌≡◌, false, IfOk, ◌+◌, ◌*◌, ◌%◌, ◌≤◌, ◌<◌};
+ghost use Rattle.std.specs.Prelude.{◌≡◌, false, IfOk, ◌+◌, ◌*◌, ◌≤◌, ◌<◌};
 ghost use Rattle.std.specs.Float.{binary32};
 ghost use Rattle.std.specs.Float.Ieee.{to_bits};
 ghost use Rattle.rym1.specs.Causes.{judged, told, when, outcome};
@@ -19,7 +19,7 @@ ghost use Rattle.edits.specs.Calls.{Sound, Last, entry_wrong, put_rest, remove_r
 use journal::{Entry, Journal, Kind, journal_cause, pop, push};
 use points::file::WorkingFile;
 use points::judge::{is_finite, parse_mascon_bytes, place_cause, point_cause, work_cause};
-use points::records::{cell_number, cell_point, cells, count, grid, out_point};
+use points::records::{cell_number, cell_point, cells, count, grid, out_point, point_at};
 use rym1::{Cause, Point};
 use working::find::find_cell;
 use working::moves::{insert_point, remove_point};
@@ -53,10 +53,12 @@ fn put_over(file: &mut [u8], journal: &mut [u32], c: u32, i: u32, p: Point) -> R
 {
     let n = count(file);
     let at = 64 + 16 * i as usize;
-    let cauchy = binary::u32_at(file, at + 8);
-    let elliptic = binary::u32_at(file, at + 12);
+    let before = point_at(file, at);
     out_point(file, at, p);
-    push(journal, Entry::new(Kind::Replaced, c, cauchy, elliptic));
+    push(
+        journal,
+        Entry::new(Kind::Replaced, c, before.cauchy, before.elliptic),
+    );
     Ok(64 + 16 * n as u64)
 }
 
@@ -115,7 +117,7 @@ pub fn put(
 // ---- remove
 
 // The record at index i.
-#[tactic(auto, using(crate::proofs::Rooms::sizes, crate::proofs::Removing::way_removed), unfolding(journal::specs::Entry::number, rym1::specs::File::size, rym1::specs::Causes::told))]
+#[tactic(auto, using(crate::proofs::Rooms::sizes, crate::proofs::Removing::way_removed), unfolding(journal::specs::Entry::number, rym1::specs::File::point_at, rym1::specs::File::size, rym1::specs::Causes::told))]
 fn remove_held(file: &mut [u8], journal: &mut [u32], c: u32, i: u32) -> Result<u64, Cause>
     requires sound { Sound file.old journal.old }
     requires free { push_cause journal.old ≡ 0 }
@@ -125,10 +127,12 @@ fn remove_held(file: &mut [u8], journal: &mut [u32], c: u32, i: u32) -> Result<u
 {
     let n = count(file);
     let at = 64 + 16 * i as usize;
-    let cauchy = binary::u32_at(file, at + 8);
-    let elliptic = binary::u32_at(file, at + 12);
+    let before = point_at(file, at);
     remove_point(file, i);
-    push(journal, Entry::new(Kind::Removed, c, cauchy, elliptic));
+    push(
+        journal,
+        Entry::new(Kind::Removed, c, before.cauchy, before.elliptic),
+    );
     Ok(64 + 16 * (n - 1) as u64)
 }
 
@@ -152,7 +156,7 @@ pub fn remove(file: &mut [u8], journal: &mut [u32], x: u32, y: u32, z: u32) -> R
 
 // ---- undo
 
-// 16, but for the cell's state; or the entry's kind. Of g: points/records.rt.
+// 16, but for the cell's state; or the entry's kind. Why g is a plain number: points/records.rt.
 #[tactic(auto, unfolding(crate::specs::Calls::entry_wrong, journal::specs::Entry::kind_number, journal::specs::Entry::number, rym1::specs::Causes::judged, rym1::specs::Causes::number, rym1::specs::Causes::when))]
 fn entry_cause(g: u32, entry: Entry) -> Result<Kind, Cause>
     requires { g ≤ 256 }
@@ -169,7 +173,7 @@ fn entry_cause(g: u32, entry: Entry) -> Result<Kind, Cause>
     Err(Cause::EntryWrong)
 }
 
-// The cell holds the record at index i: a put is undone.
+// The cell holds the record at index i: a put is undone. By the entry's kind, which is data of the journal.
 #[tactic(auto, using(crate::proofs::Rooms::sizes, crate::proofs::Undoing::way_held, crate::proofs::Undoing::way_emptied), unfolding(journal::specs::Entry::number, rym1::specs::File::size, rym1::specs::Causes::told))]
 fn undo_held(
     file: &mut [u8],

@@ -38,7 +38,7 @@ pub struct Indices {
     pub k: u32,
 }
 
-// Where a ray along +X meets a triangle: at a distance, or not at all. The scope names this form of the answer, in place of the original's mark.
+// Where a ray along +X meets a triangle: at a distance, or not at all. The project's rules name this form of the answer, in place of the original's mark (docs/DECISIONS.md 97).
 #[derive(Clone, Copy)]
 pub enum Crossing {
     At(f64),

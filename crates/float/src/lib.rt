@@ -1,4 +1,4 @@
-// The float leaves, all worked out from the bits: narrowing, finite tests, reads of patterns, and the index of a scaled coordinate.
+// The float leaves: narrowing, finite tests and the index of a scaled coordinate, worked out from the bits; the magnitude, and the lesser and the greater of two.
 #![tactic(auto)]
 
 pub mod axis;
@@ -11,7 +11,7 @@ ghost use Rattle.float.specs.Narrow.{narrow_finite, narrow64, Told};
 
 use pattern::{Binary32, is_finite};
 
-// Narrowing and the floor are worked out from the bits, and not by `as f32` and `as u32`: the scope asks for it, so that what they do is said of their patterns.
+// Narrowing and the floor are worked out from the bits, and not by `as f32` and `as u32`, as the project's rules have it (docs/DECISIONS.md 4).
 
 // m / 2^d to the nearest whole number, and a tie to the even one.
 fn nearest_shift(m: u64, d: u64) -> u64

@@ -1,7 +1,7 @@
 // Patterns read as floats, and which of them are finite.
 ghost use Rattle.std.specs.Prelude.{◌≡◌, ℕ, ◌<◌, ◌*◌};
 ghost use Rattle.std.specs.Float.{Format, binary32, binary64};
-ghost use Rattle.std.specs.Float.Ieee.{of_bits, to_bits, nan_bits, hid, ones, top};
+ghost use Rattle.std.specs.Float.Ieee.{of_bits, nan_bits, hid, ones, top};
 ghost use Rattle.std.proofs.Common.{refl, lit<};
 ghost use Rattle.std.specs.Float.Ieee.Scale.{finite};
 
@@ -36,6 +36,7 @@ impl Layout for Binary32 {
     ghost told = { (lit< tt, refl, refl) };
 }
 
+// No call here reads one; `is_finite` of it was public, as of the other.
 pub struct Binary64;
 
 impl Layout for Binary64 {
@@ -66,7 +67,8 @@ fn is_nan<F: Layout>(n: u64) -> bool
     F::INFINITY < n % F::SIGN
 }
 
-// A binary32's pattern as a binary64, which holds each binary32. The library reads and widens in two functions, each with a test for NaNs; this has one.
+// A binary32's pattern as a binary64, which holds each binary32. By the library's two functions, which read and widen, it would be no plainer: each has a test for a NaN and a name for what it gives,
+// where this has one.
 pub fn widen(n: u32) -> f64
     ensures { result ≡ of_bits binary32 n }
 {

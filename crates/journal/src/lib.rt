@@ -40,7 +40,7 @@ impl Entry {
         }
     }
 
-    // None in an entry that no edit wrote.
+    // None in an entry that no edit wrote. As `TryFrom` it would be the same match.
     #[tactic(auto, unfolding(crate::specs::Entry::number, crate::specs::Entry::kind_number))]
     pub fn kind(self) -> Option<Kind>
         ensures { kind_number result ≡ (said self).kind }

@@ -1,4 +1,4 @@
-// The lookup of a point file in lent words, and the causes up to 8 that it asks for: a cell's word is one more than the index of the last record that names the cell, or 0.
+// The lookup of a point file in lent words, and the causes up to 8 that it asks for: a cell's word is one more than the index of the last record that names the cell, or 0, as the words that are lent hold numbers.
 #![tactic(auto)]
 
 ghost use Rattle.std.specs.Prelude.{◌≡◌, ℕ, ◌==◌, ◌*◌, ◌≤◌, ◌<◌, not, count_by, length, get_or, ltb, IfOk};

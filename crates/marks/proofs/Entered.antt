@@ -18,7 +18,7 @@ use Rattle.rym1.specs.Cells.{Slot, vacant, held, masses_of, later, look_from, lo
 use Rattle.rym1.proofs.Accepted.{accepted}
 use Rattle.rym1.proofs.Causes.{and_true_r, when_zero}
 use Rattle.rym1.proofs.Cells.{cube_few, named_same, look_past, working_above}
-use Rattle.marks.specs.Marks.{one, mark, tally, mark_word, Entered, Marked}
+use Rattle.marks.specs.Marks.{one, mark, tally, mark_word, Entered}
 use Rattle.marks.proofs.Digits.{word_lt, ones_word, tally_more}
 use Rattle.marks.proofs.Index.{mark_bit, tally_few, shifted, group_of}
 
@@ -224,6 +224,3 @@ module _ (words f : List ℕ) (total k : ℕ) (h : k < groups (cube (grid f))) (
         | yes e ↦ rw e (get_or-set_same words (2 * k + 1) total 0 pair_there ∙ d.sum)
         | no e ↦ get_or-set_other words (2 * k + 1) (2 * i + 1) total 0 (λ t. e (omega arith)) ∙ d.totals i (omega arith)
       ]
-
-pub total_end : (words f : List ℕ) (total k : ℕ) → groups (cube (grid f)) ≤ k → Totalling words f total k → Marked words f
-total_end words f total k h d = record { entered = d.entered; totals = λ i b. d.totals i (omega arith) }

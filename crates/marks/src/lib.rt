@@ -8,7 +8,7 @@ ghost use Rattle.marks.specs.Marks.{mark, tally, Entered, Marked};
 use points::file::{PointFile, WorkingFile};
 use points::records::cells;
 
-// How many words marks and totals take. Of g: points/records.rt.
+// How many words marks and totals take. Why g is a plain number: points/records.rt.
 pub fn room(g: u32) -> usize
     requires { g ≤ 256 }
     ensures { (result ≡ 2 * groups (cube g)) × (result ≤ 1048576) }
@@ -16,7 +16,7 @@ pub fn room(g: u32) -> usize
     2 * ((cells(g) + 31) / 32)
 }
 
-// Each record's mark. No two records name one cell, so a mark is added, and nothing is carried.
+// Each record's mark. No two records name one cell, so a mark is added, and nothing is carried. With the walk in `lookup` this shares the `for` alone.
 fn enter_marks(words: &mut [u32], file: WorkingFile<'_>)
     requires cleared { (2 * groups (cube (grid file.file.bytes.now)) ≤ length words.old)
         × ((k : ℕ) → k < 2 * groups (cube (grid file.file.bytes.now)) → get_or words.old k 0 ≡ 0) }
@@ -28,7 +28,7 @@ fn enter_marks(words: &mut [u32], file: WorkingFile<'_>)
     }
 }
 
-// The running totals.
+// The running totals. By index: of a loop over pairs of words it would have to be shown which words each pair is.
 fn enter_totals(words: &mut [u32], file: PointFile<'_>)
     requires { Entered words.old file.bytes.now }
     ensures { Marked words.new file.entry.bytes.now × (length words.new ≡ length words.old) }

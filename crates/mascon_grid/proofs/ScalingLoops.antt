@@ -3,7 +3,6 @@ use Prim.Native.Nat.{ℕ, zero, suc, ◌+◌, ◌-◌, ◌*◌, ◌≤◌, ◌<�
 use mathlib.Core.Path.{◌≡◌, refl, sym, ap, ◌∙◌}
 use mathlib.Core.Bool.{true, false, ◌&&◌}
 use mathlib.Core.List.{List, [], ◌∷◌}
-use native.Mathlib.Nat.{sub-zero}
 use native.Mathlib.Omega.{arith}
 use lib.ListN.{length}
 use Rattle.rym1.specs.declared.Point.{Point}
@@ -45,9 +44,6 @@ pub record Scaling (out₀ out : List ℕ) (k l n i : ℕ) : Type 0 where
   pub answer : masses_finite (scaled_points k l (points_at out (64 + 16 * i) (n - i))) ≡ masses_finite (scaled_points k l (points_at out₀ 64 n))
   pub bytes : splice out (64 + 16 * i) (points_bytes (scaled_points k l (points_at out (64 + 16 * i) (n - i))))
       ≡ splice out₀ 64 (points_bytes (scaled_points k l (points_at out₀ 64 n)))
-
-pub scaling_start : (out : List ℕ) (k l n : ℕ) → Scaling out out k l n 0
-scaling_start out k l n = record { answer = rw (sub-zero n); bytes = rw (sub-zero n) }
 
 -- the next record, p once it is scaled
 module _ (out₀ out : List ℕ) (k l n i : ℕ) (p : Point) (h : i < n) (ep : p ≡ scaled_point k l (point_at out (64 + 16 * i))) (d : Scaling out₀ out k l n i) where

@@ -53,7 +53,7 @@ fn are_fine(p: Point) -> bool
     is_finite(p.cauchy) && is_finite(p.elliptic)
 }
 
-// Scales the first n records, up to the first that has a mass that is not finite then: that one is not written. None where there is one.
+// Scales the first n records, not all that `out` has room for, up to the first that has a mass that is not finite then: that one is not written. None where there is one.
 pub fn scale_masses(out: &mut [u8], n: u32, k: u32, l: u32) -> Option<()>
     requires { 64 + 16 * n ≤ length out.old }
     ensures { (is_some result ≡ masses_finite (scaled_points k l (points_at out.old 64 n)))

@@ -1,5 +1,5 @@
 // Why a point file is refused: causes 1 to 7, and 10.
-ghost use Rattle.std.specs.Prelude.{◌≡◌, ◌+◌, ◌*◌, ◌≤◌, ◌<◌, ◌&&◌, not, length, eqb, IfOk};
+ghost use Rattle.std.specs.Prelude.{◌≡◌, ◌+◌, ◌*◌, ◌≤◌, ◌<◌, ◌&&◌, length, IfOk};
 ghost use Rattle.rym1.specs.Bytes.{word32};
 ghost use Rattle.rym1.specs.Causes.{judged};
 ghost use Rattle.rym1.specs.File.{grid, count, points, points_at, size, finite, all_finite, header_floats, below};
@@ -30,7 +30,7 @@ pub fn grid_cause(g: u32) -> Result<(), Cause>
     Ok(())
 }
 
-// 6, of a record or of a call's own numbers.
+// 6, of a record or of a call's own numbers. Three coordinates are three parameters, here and elsewhere, as the calls have them.
 pub fn place_cause(g: u32, x: u32, y: u32, z: u32) -> Result<(), Cause>
     ensures { judged result ≡ place_cause g x y z }
 {
@@ -58,7 +58,7 @@ pub fn point_cause(g: u32, p: Point) -> Result<(), Cause>
     mass_cause(p.cauchy, p.elliptic)
 }
 
-// Records in file order: the first bad one decides.
+// Records in file order: the first bad one decides. g and n are the header's, read once.
 fn points_cause(file: &[u8], g: u32, n: u32) -> Result<(), Cause>
     requires { size n ≤ length file.now }
     ensures { judged result ≡ points_cause g (points_at file.now 64 n) }
@@ -79,7 +79,7 @@ fn are_finite(file: &[u8], at: usize) -> bool
         && is_finite(binary::u32_at(file, at + 8))
 }
 
-// The nine floats that are read. This and the next two read a header before the file is accepted, when there is no type that says so.
+// The nine floats that are read. This and the next two read a header before the file is accepted; why not an array of its bytes: points/records.rt.
 fn has_finite_floats(file: &[u8]) -> bool
     requires { 64 ≤ length file.now }
     ensures { result ≡ all_finite (header_floats file.now) }
@@ -87,7 +87,7 @@ fn has_finite_floats(file: &[u8]) -> bool
     are_finite(file, 16) && are_finite(file, 32) && are_finite(file, 44)
 }
 
-// Min below max on an axis, by IEEE 754.
+// Min below max on an axis, by IEEE 754. The axis is an index into the floats.
 fn is_below(file: &[u8], axis: usize) -> bool
     requires { (64 ≤ length file.now) × (axis < 3) }
     ensures { result ≡ below file.now axis }

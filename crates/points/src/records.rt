@@ -7,8 +7,8 @@ ghost use Rattle.rym1.proofs.Accepted.{Inside};
 
 use rym1::Point;
 
-// Of a grid's number each function asks what it needs alone: at most 256 here, above 0 where a cell's number is taken apart. A type of both would ask more of callers, and of a type of
-// each the number would be taken out at every use.
+// Why a grid's number g is a plain number with a clause: each function asks what it needs alone, at most 256 or above 0. A type of both would ask more of the callers of the public ones, and out
+// of a type of each the number would be taken at every use.
 
 // How many cells a grid has.
 pub fn cells(g: u32) -> usize
@@ -19,7 +19,9 @@ pub fn cells(g: u32) -> usize
     side * side * side
 }
 
-// The next two take any bytes with a header, as the judge reads them before the file is accepted; an accepted file has methods for them (`PointFile`).
+// The next two take any bytes with a header, as the judge reads them before the file is accepted; an accepted file has methods for them (`PointFile`). Of a header cut out as an array each contract
+// would speak of the cut, and not of the file.
+
 // The header's grid.
 pub fn grid(file: &[u8]) -> u32
     requires { 64 ≤ length file.now }
@@ -81,7 +83,7 @@ pub fn cell_point(g: u32, c: u32, cauchy: u32, elliptic: u32) -> Point
     }
 }
 
-// The first eight bytes of a record, as a number: x lowest, two bytes each. One store of eight bytes is plainer than four of two.
+// The first eight bytes of a record, as a number: x lowest, two bytes each. By arithmetic, so that they are one store and not four (docs/DECISIONS.md 79).
 fn place_number(p: Point) -> u64
     ensures { le64 result ≡ le16 p.x ++ (le16 p.y ++ (le16 p.z ++ le16 p.pad)) }
 {

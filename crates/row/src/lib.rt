@@ -183,7 +183,7 @@ pub fn x_index(b: Bounds, x: f64) -> u32
     indices(b, Vec3 { x, y: x, z: x }).i
 }
 
-// The same, the list read out of all lists.
+// The answers of a row's points, the list read out of all lists.
 #[tactic(auto, using(crate::proofs::Laws::listed_good))]
 pub fn listed_answers(lists: &Lists, row: &Row, fl: &mut [f64], out: &mut [u8]) -> usize
     requires same_box { row.now.b ≡ lists.now.b }

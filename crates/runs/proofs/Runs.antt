@@ -264,10 +264,6 @@ module _ (f : List ℕ) (g z y x x1 : ℕ) where
           fits = r.fits;
         }
 
-    -- up to an end
-    pub gathered_up_to : (e : ℕ) → at ≡ e → x < e → e ≤ x1 → Ran f g z y x x1 (record { index = i; count = k; next = e })
-    gathered_up_to e same on low = record { points = rw same at d.points; on = on; in_row = low; in_file = d.in_file; fits = d.fits }
-
 -- the row's cells by its first one
 pub row_cell : (g x y z c : ℕ) → c ≡ cell g 0 y z → c + x ≡ cell g x y z
 unfolding cell

@@ -34,7 +34,7 @@ pub fn form_of(file: PointFile<'_>) -> Form
     }
 }
 
-// How many words it takes. Of g: points/records.rt.
+// How many words it takes. Why g is a plain number: points/records.rt.
 pub fn room(form: Form, g: u32) -> usize
     requires { g ≤ 256 }
     ensures { result ≡ room_of form g }

@@ -1,5 +1,5 @@
 // The visit of a box, z outermost, x innermost, as runs of records: the one traversal of a box's points.
-ghost use Rattle.std.specs.Prelude.{◌≡◌, ◌+◌, ◌≤◌, ◌<◌, [], MatchOption};
+ghost use Rattle.std.specs.Prelude.{◌≡◌, ◌+◌, ◌<◌, [], MatchOption};
 ghost use Rattle.std.specs.Iterator.{at_most};
 ghost use Rattle.rym1.specs.Cells.{look};
 ghost use Rattle.rtm1.specs.Boxes.{Within};

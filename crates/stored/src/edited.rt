@@ -11,7 +11,7 @@ use std::num::f32_from_bits_with_nan;
 #[derive(Drop)]
 pub struct Edit;
 
-// The call at a byte: its kind (1 put, 2 remove, 3 undo), coordinates and masses.
+// The call at a byte: its kind, a number of the stored format (1 put, 2 remove, any other undo), coordinates and masses.
 fn act(case: &[u8], at: usize, file: &mut [u8], journal: &mut [u32]) -> u64
     requires { at + 24 ≤ length case.now }
 {

@@ -8,6 +8,7 @@ pub const WORD: u32 = 0xa5a5_a5a5;
 
 pub const FLOAT: f64 = 0.5;
 
+// No method of the library reads words out of bytes.
 pub fn copy_words(to: &mut [u32], case: &[u8], at: usize)
     requires { at + 4 * length to.old ≤ length case.now }
 {

@@ -6,7 +6,7 @@ use mathlib.Core.List.{List}
 use native.Mathlib.Numerals.{add-one}
 use native.Mathlib.Omega.{arith}
 use lib.ListN.{length}
-use lib.Ieee.{Float, binary32, binary64, add, of_bits, nan_bits}
+use lib.Ieee.{Float, binary32, of_bits, nan_bits}
 use lib.Ieee.Scale as ieee
 use lib.Dec.{ltb}
 use Rattle.rym1.specs.Bytes.{word16, word32}
@@ -15,24 +15,10 @@ use Rattle.rym1.proofs.Accepted.{accepted, accepted_points, sound, each_sound}
 use Rattle.rym1.proofs.Causes.{and_true_r}
 use Rattle.float.proofs.Finite.{reads_nan}
 use Rattle.rtm1.specs.declared.Sums.{Sums}
-use Rattle.rtm1.specs.Visit.{Placed, moved, shifted, with, total}
+use Rattle.rtm1.specs.Visit.{with, total}
 use Rattle.runs.specs.Runs.{placed_at, placed}
 
 -- ---- one more point
-
-pub with_moments : (s : Sums) (p : Placed) (cm em km : List Float) → cm ≡ moved s.cauchy_moment p.x p.y p.z p.cauchy
-    → em ≡ moved s.elliptic_moment p.x p.y p.z p.elliptic → km ≡ shifted s.constant_moment p.x p.y p.z
-    → ◌≡◌ {A = Sums}
-    (record {
-      count = s.count + 1;
-      cauchy = add binary64 s.cauchy p.cauchy;
-      elliptic = add binary64 s.elliptic p.elliptic;
-      cauchy_moment = cm;
-      elliptic_moment = em;
-      constant_moment = km;
-    })
-    (with s p)
-with_moments s p cm em km a b c = rw (a, b, c)
 
 -- ---- records on end
 

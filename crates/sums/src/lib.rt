@@ -11,7 +11,7 @@ ghost use Rattle.rym1.specs.Bytes.{word32};
 ghost use Rattle.rym1.specs.File.{count};
 ghost use Rattle.rym1.specs.Cells.{look};
 ghost use Rattle.rtm1.specs.Boxes.{Within};
-ghost use Rattle.rtm1.specs.Visit.{moved, shifted, with, total, nothing, visit};
+ghost use Rattle.rtm1.specs.Visit.{moved, shifted, with, total, visit};
 ghost use Rattle.rtm1.specs.Tree.{sums_of};
 ghost use Rattle.runs.specs.Walk.{points_of};
 
@@ -20,21 +20,8 @@ use rtm1::{Cells, Sums};
 use runs::Lookup;
 use runs::walk::Stretch;
 
-// No point.
-fn nothing() -> Sums
-    ensures { result ≡ nothing }
-{
-    Sums {
-        count: 0,
-        cauchy: 0.0,
-        elliptic: 0.0,
-        cauchy_moment: [0.0; 3],
-        elliptic_moment: [0.0; 3],
-        constant_moment: [0.0; 3],
-    }
-}
-
 // A moment with one more point: coordinate × mass.
+#[tactic(auto, unfolding(rtm1::specs::Visit::moved))]
 fn moment(m: [f64; 3], x: u32, y: u32, z: u32, mass: f64) -> [f64; 3]
     ensures { result ≡ moved m x y z mass }
 {
@@ -45,7 +32,8 @@ fn moment(m: [f64; 3], x: u32, y: u32, z: u32, mass: f64) -> [f64; 3]
     ]
 }
 
-// The constant moment with one more point: plain coordinate. Not `moment` of mass 1, which is three multiplications a point more.
+// The constant moment with one more point: plain coordinate. As `moment` of mass 1 it would be no plainer, and multiply what it adds.
+#[tactic(auto, unfolding(rtm1::specs::Visit::shifted))]
 fn shift(m: [f64; 3], x: u32, y: u32, z: u32) -> [f64; 3]
     ensures { result ≡ shifted m x y z }
 {
@@ -73,7 +61,7 @@ fn with_point(s: Sums, x: u32, y: u32, z: u32, cauchy: f64, elliptic: f64) -> Su
     }
 }
 
-// A mass of the point file, as a binary64. It is finite, so that no NaN need be told apart.
+// A mass of the point file, as a binary64. It is finite, so that no NaN need be told apart: `widen`'s test took seven of some thirty instructions a point (docs/DECISIONS.md 84).
 fn mass_at(file: &[u8], at: usize) -> f64
     requires { (at + 4 ≤ length file.now) × (nan_bits binary32 (word32 file.now at) ≡ false) }
     ensures { result ≡ of_bits binary32 (word32 file.now at) }
@@ -103,7 +91,7 @@ pub fn sums_of(lookup: &Lookup<'_>, b: Cells) -> Sums
     ensures value { result ≡ sums_of (look lookup.now.file.bytes.now) lookup.now.g b }
     ensures counted { result.count ≡ length (visit (look lookup.now.file.bytes.now) lookup.now.g b) }
 {
-    let mut t = nothing();
+    let mut t = Sums::default();
     for r in lookup.runs(b) {
         t = add_records(lookup.file, t, r);
     }

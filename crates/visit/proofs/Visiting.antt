@@ -92,17 +92,17 @@ pub record Visited-so-far (ts : List Triangle) (f : Frame) (g : ℕ) (ks es : Li
   pub bytes : masses_finite (raw_points f g ks es below) ≡ true → out ≡ splice out₀ 64 (points_bytes (raw_points f g ks es below))
 
 module _ (ts : List Triangle) (f : Frame) (g : ℕ) (ks es : List Kernel) (out₀ : List ℕ) where
-  pub visit_start : Visited-so-far ts f g ks es out₀ 0 (record { count = 0; cauchy = zero64; elliptic = zero64; large = false }) out₀
+  pub visit_start : (w : Found) → w ≡ record { count = 0; cauchy = zero64; elliptic = zero64; large = false } → Visited-so-far ts f g ks es out₀ 0 w out₀
   unfolding inner found raw_from raw_points points_bytes masses_finite
-  visit_start =
-      record {
+  visit_start w e =
+      rw e (record {
         below = [];
         rest = ap (inner_from ts f g 0) (sub-zero (cube g));
         finds = refl;
         few = omega arith;
         long = refl;
         bytes = λ h. sym (splice_none out₀ 64);
-      }
+      })
 
   -- a cell that is not inside
   pub visit_past : (c : ℕ) (w : Found) (out : List ℕ) → c < cube g → is_inside (test_box ts) ts (middle f g c) ≡ false

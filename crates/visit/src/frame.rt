@@ -43,6 +43,7 @@ pub fn frame_of(b: Bounds, g: u32) -> Frame
     frame_padded(b, padding(b, g), g as f64)
 }
 
+// One coordinate of it. Node's `metric_on` is of one shape, and of another definition.
 #[tactic(auto, unfolding(filling::specs::Frame::middle_on))]
 fn middle_on(min: f64, cell: f64, n: u32) -> f64
     ensures { result ≡ def.middle_on min cell n }
@@ -50,7 +51,7 @@ fn middle_on(min: f64, cell: f64, n: u32) -> f64
     min + (n as f64 + 0.5) * cell
 }
 
-// The point of a cell, by the cell's number. Of g: points/records.rt.
+// The point of a cell, by the cell's number, taken apart as in `cell_point`: three divisions, of which a function would hand back three numbers. Why g is a plain number: points/records.rt.
 #[tactic(auto, unfolding(filling::specs::Frame::middle))]
 pub fn middle(f: Frame, g: u32, c: u32) -> Vec3
     requires { 0 < g }

@@ -6,7 +6,7 @@ pub mod frame;
 ghost use Rattle.std.specs.Prelude.{◌≡◌, cond, is_some, ◌&&◌, ◌+◌, ◌*◌, ◌/◌, ◌≤◌, ◌<◌, length};
 ghost use Rattle.rym1.specs.Bytes.{splice};
 ghost use Rattle.float.specs.Narrow.{float_word};
-ghost use Rattle.rym1.specs.File.{finite, size, cube, point_bytes};
+ghost use Rattle.rym1.specs.File.{finite, size, point_bytes};
 ghost use Rattle.rym1.specs.Cells.{cell_point};
 ghost use Rattle.filling.specs.Vector.{times};
 ghost use Rattle.filling.specs.Lists.{mesh as mesh_of, kernels};
@@ -24,8 +24,8 @@ use model::Mesh;
 use points::records::{cell_point, cells, out_point};
 use std::num::f32_to_bits_with_nan;
 
-// How many points, the raw sums of their masses, and whether a mass is too large: no Option of the sums, since the points are counted on behind such a mass.
-#[derive(Clone, Copy)]
+// How many points, the raw sums of their masses, and whether a mass is too large: no Option of the sums, since `Visiting` promises them behind such a mass too.
+#[derive(Clone, Copy, Default)]
 pub struct Found {
     pub count: u32,
     pub cauchy: f64,
@@ -54,7 +54,7 @@ fn mass_at(list: &[u8], p: Vec3, volume: f64) -> f64
     density_at(list, p) * volume
 }
 
-// The record of the cell c with these masses, from a byte on; none where one is too large, and then nothing is written.
+// The record of the cell c with these masses, from a byte on; none where one is too large, and then nothing is written. Why g is a plain number: points/records.rt. let .. else: docs/DECISIONS.md 97.
 #[tactic(auto, using(binary::proofs::Words::word_large))]
 fn out_masses(out: &mut [u8], at: usize, g: u32, c: u32, cauchy: f64, elliptic: f64) -> Option<()>
     requires { (0 < g) × (at + 16 ≤ length out.old) }
@@ -98,7 +98,7 @@ fn add_cell(grid: &Grid, c: u32, p: Vec3, w: Found, out: &mut [u8]) -> Found
     }
 }
 
-// Half the cells, rounded up. Of g: points/records.rt.
+// Half the cells, rounded up. Why g is a plain number: points/records.rt.
 #[tactic(auto, unfolding(filling::specs::Fill::capacity))]
 pub fn capacity_of(g: u32) -> u32
     requires { g ≤ 256 }
@@ -116,12 +116,7 @@ pub fn visit_cells(grid: &Grid, floats: &mut [f64], out: &mut [u8]) -> Option<Fo
         (inner (mesh_of grid.now.mesh.bytes.now) grid.now.f grid.now.g) out.old result out.new }
 {
     let capacity = capacity_of(grid.g);
-    let mut w = Found {
-        count: 0,
-        cauchy: 0.0,
-        elliptic: 0.0,
-        large: false,
-    };
+    let mut w = Found::default();
     for c in 0..cells(grid.g) as u32 {
         let p = middle(grid.f, grid.g, c);
         if !is_inside(grid.mesh, grid.b, p, floats) {

@@ -6,7 +6,7 @@ ghost use Rattle.working.specs.Spotted.{Spotted};
 use points::file::WorkingFile;
 use points::records::point_at;
 
-// The number of the cell that a record names. Of g: points/records.rt.
+// The number of the cell that a record names, in 64 bits: the search hands it any sixteen bytes, of which the number may pass 32. Why g is a plain number: points/records.rt.
 fn cell_in(g: u32, bytes: &[u8; 16]) -> u64
     requires { g ≤ 256 }
     ensures { result ≡ cell_of g (point_at bytes.now 0) }

@@ -1,10 +1,9 @@
 -- `binary::out_words` meets its contract: words one behind the other. Assumes nothing.
 use Prim.Native.Nat.{ℕ, ◌*◌, ◌+◌}
-use mathlib.Core.Path.{◌≡◌, refl, sym, ap, ◌∙◌}
+use mathlib.Core.Path.{refl, sym, ap, ◌∙◌}
 use mathlib.Core.List.{List}
 use native.Mathlib.Omega.{arith}
-use lib.ListN.{get_or, take, length}
-use lib.Seq.{take_all}
+use lib.ListN.{get_or}
 use Rattle.rym1.specs.Bytes.{le, words_bytes, splice}
 use Rattle.rym1.proofs.Bytes.{splice_none, words_more}
 use Rattle.binary.proofs.out_words.Goals as goal
@@ -21,12 +20,3 @@ loop-i-preserved g c =
           ∙ ap (λ (l : List ℕ). splice l (c.args.at + 4 * loop.i) (le 4 (get_or c.args.words loop.i 0))) loop.invariant.1
           ∙ words_more c.args.out.now c.args.at c.args.words loop.i (c.args.at + 4 * loop.i) (omega arith) (omega arith) (omega arith),
     )
-
-pub shape_of-out : goal.shape_of-out
-shape_of-out g c = c.loop-i.invariant.0
-
-pub returns : goal.returns
-returns g c =
-    let long = c.well_formed.1.1.0.1.0.1 in
-    let n : c.loop-i.i ≡ length c.args.words = omega arith in
-    c.loop-i.invariant.1 ∙ ap (λ (l : List ℕ). splice c.args.out.now c.args.at (words_bytes l)) (ap (λ (k : ℕ). take k c.args.words) n ∙ take_all _ c.args.words (omega arith))

@@ -8,9 +8,6 @@ use Rattle.float.proofs.narrow.Goals as goal
 pub returns-then-is_nan : goal.returns-then-is_nan
 returns-then-is_nan c = told c.args.x (subst T (sym c.well_formed.0.1) tt) _ (nan_large c.args.x c.is_nan.result c.is_nan.ensures.value c.if-is_nan.true)
 
-pub float_to_bits-x : goal.float_to_bits-x
-float_to_bits-x c = no_nan c.args.x c.is_nan.result c.is_nan.ensures.value c.if-is_nan.false
-
 pub returns-then-not-is_finite : goal.returns-then-not-is_finite
 returns-then-not-is_finite c =
     let p = c.narrow_bits-pattern in

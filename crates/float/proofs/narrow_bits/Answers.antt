@@ -1,6 +1,6 @@
 -- `float::narrow_bits` meets its contract: the masks are the fields, and the two tests those of `narrow`. Assumes nothing.
 use native.Mathlib.Omega.{arith}
-use Rattle.float.proofs.Machine.{frac_lt, exp_lt, infinite_bits, nan_bits_law, finite_bits, bits_lt}
+use Rattle.float.proofs.Machine.{infinite_bits, nan_bits_law, finite_bits, bits_lt}
 use Rattle.float.proofs.narrow_bits.Goals as goal
 
 pub returns-then-t-eq0 : goal.returns-then-t-eq0
@@ -12,11 +12,6 @@ pub returns-then-x-eq2047 : goal.returns-then-x-eq2047
 returns-then-x-eq2047 c =
     let b = c.args.b in
     nan_bits_law b c.if-x-eq2047.true c.if-t-eq0.false
-
-pub narrow_finite-requires : goal.narrow_finite-requires
-narrow_finite-requires c =
-    let b = c.args.b in
-    (exp_lt b c.if-x-eq2047.false, frac_lt b)
 
 pub overflow_add-result-2 : goal.overflow_add-result-2
 overflow_add-result-2 c =

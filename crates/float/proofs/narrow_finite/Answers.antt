@@ -1,6 +1,6 @@
 -- `float::narrow_finite` meets its contract: each way through the code is one case of `narrow_finite` at 64 to 32 bits. Assumes nothing.
 use native.Mathlib.Omega.{arith}
-use Rattle.float.proofs.Machine.{none_at_zero, low_kept, low_gone, high_kept, high_over, sum_fits}
+use Rattle.float.proofs.Machine.{none_at_zero, low_kept, low_gone, high_kept, high_over}
 use Rattle.float.proofs.narrow_finite.Goals as goal
 
 pub returns-then-x-eq0 : goal.returns-then-x-eq0
@@ -14,10 +14,6 @@ returns-then-d-lt54 c =
 pub returns-then-x-le897 : goal.returns-then-x-le897
 returns-then-x-le897 c =
     low_gone c.args.x c.args.t c.requires.1 (omega arith) c.if-x-le897.true (omega arith)
-
-pub overflow_add-sum : goal.overflow_add-sum
-overflow_add-sum c =
-    record { fits = sum_fits c.args.x c.args.t c.requires.1 c.requires.0 c.nearest_shift-2.result c.nearest_shift-2.ensures }
 
 pub returns-then-sum-lt2139095040 : goal.returns-then-sum-lt2139095040
 returns-then-sum-lt2139095040 c =

@@ -1,26 +1,15 @@
 -- `float::nearest_shift` meets its contract: the remainder against one half picks the case of `closest`. Assumes nothing.
 use native.Mathlib.Omega.{arith}
-use Rattle.float.proofs.Machine.{some_bit, goes_down, goes_up, goes_even, room, room_even}
+use Rattle.float.proofs.Machine.{goes_down, goes_up, goes_even}
 use Rattle.float.proofs.nearest_shift.Goals as goal
-
-pub overflow_sub-rest : goal.overflow_sub-rest
-overflow_sub-rest c = some_bit c.args.m c.args.d c.requires.0 c.requires.1
 
 pub returns-then-rest-half : goal.returns-then-rest-half
 returns-then-rest-half c =
     goes_down c.args.m c.args.d c.requires.0 c.requires.1 c.if-rest-half.true
 
-pub overflow_add-result : goal.overflow_add-result
-overflow_add-result c =
-    record { fits = room c.args.m c.args.d c.requires.0 c.requires.1 c.ranges.m.fits }
-
 pub returns-then-half-rest : goal.returns-then-half-rest
 returns-then-half-rest c =
     goes_up c.args.m c.args.d c.requires.0 c.requires.1 (omega arith)
-
-pub overflow_add-result-2 : goal.overflow_add-result-2
-overflow_add-result-2 c =
-    record { fits = room_even c.args.m c.args.d c.requires.0 c.requires.1 c.ranges.m.fits }
 
 pub returns : goal.returns
 returns c =

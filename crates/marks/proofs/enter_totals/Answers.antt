@@ -1,11 +1,11 @@
 -- `marks::enter_totals` meets its contract: the total before a word is how many lower cells are occupied. Assumes nothing.
-use Prim.Native.Nat.{ℕ, ◌+◌, ◌*◌, ◌/◌}
+use Prim.Native.Nat.{ℕ, ◌*◌, ◌/◌}
 use mathlib.Core.Path.{◌≡◌, refl, ap, ◌∙◌}
 use mathlib.Core.List.{List}
 use native.Mathlib.Omega.{arith}
 use lib.ListN.{length-set}
 use Rattle.rym1.specs.File.{grid, cube, groups}
-use Rattle.marks.proofs.Entered.{total_start, groups_few, pair_there, total_fits, total_turn, total_end}
+use Rattle.marks.proofs.Entered.{total_start, groups_few, total_fits, total_turn}
 use Rattle.marks.proofs.enter_totals.Goals as goal
 
 pairs : {n g : ℕ} (f : List ℕ) → n ≡ 2 * groups (cube g) → g ≡ grid f → n / 2 ≡ groups (cube (grid f))
@@ -13,17 +13,6 @@ pairs {n} {g} f e same = let all : n ≡ 2 * groups (cube (grid f)) = e ∙ ap (
 
 pub loop-i-init : goal.loop-i-init
 loop-i-init c = (refl, total_start _ _ c.requires)
-
-pub bounds-words-i : goal.bounds-words-i
-bounds-words-i c =
-    let loop = c.loop-i in
-    pair_there loop.words _ loop.total loop.i (omega (arith, pairs c.args.file.bytes.now c.room-i-end.ensures.0 c.grid.ensures.value)) loop.invariant.1
-
-pub bounds-words-i-in-loop-i : goal.bounds-words-i-in-loop-i
-bounds-words-i-in-loop-i c =
-    let loop = c.loop-i in
-    let there = pair_there loop.words _ loop.total loop.i (omega (arith, pairs c.args.file.bytes.now c.room-i-end.ensures.0 c.grid.ensures.value)) loop.invariant.1 in
-    omega (arith, there, length-set loop.words (2 * loop.i + 1) loop.total)
 
 pub overflow_add-total : goal.overflow_add-total
 overflow_add-total c =
@@ -34,8 +23,3 @@ pub loop-i-preserved : goal.loop-i-preserved
 loop-i-preserved c =
     let loop = c.loop-i in
     (simp length-set loop.invariant.0, total_turn loop.words _ loop.total loop.i (omega (arith, pairs c.args.file.bytes.now c.room-i-end.ensures.0 c.grid.ensures.value)) loop.invariant.1)
-
-pub returns : goal.returns
-returns c =
-    let loop = c.loop-i in
-    (total_end loop.words _ loop.total loop.i (omega (arith, pairs c.args.file.bytes.now c.room-i-end.ensures.0 c.grid.ensures.value)) loop.invariant.1, loop.invariant.0)

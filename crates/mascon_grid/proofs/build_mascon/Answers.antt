@@ -1,20 +1,9 @@
 -- `mascon_grid::build_mascon` meets its contract: past every cause it is what `fill_grid` left; the other refusals the check finds. Assumes nothing.
-use mathlib.Core.Path.{refl, sym, ap, ◌∙◌}
-use Rattle.std.proofs.lemmas.Result.{err_from_is_err_and}
-use Rattle.rym1.specs.Causes.{number, judged, told}
-use Rattle.rym1.proofs.Causes.{number_pos, first_found, refuse_found}
+use mathlib.Core.Path.{sym, ap, ◌∙◌}
+use Rattle.rym1.specs.Causes.{judged}
 use Rattle.filling.specs.Frame.{frame}
-use Rattle.filling.specs.Fill.{fill, fill_cause}
 use Rattle.mascon_grid.proofs.Outcomes.{way_filled}
 use Rattle.mascon_grid.proofs.build_mascon.Goals as goal
-
-pub returns-in_err-grid_cause : goal.returns-in_err-grid_cause
-unfolding judged told fill fill_cause
-returns-in_err-grid_cause c =
-    let p = err_from_is_err_and c.from_residual.result c.from_residual.ensures.1 in
-    let e = c.in_err-grid_cause in
-    let pos = number_pos e.field-0.0 in
-    rw (p.1, p.2) (rw (← e.ensures, first_found (number e.field-0.0) _ pos, refuse_found (number e.field-0.0) _ _ pos), λ soon. refl)
 
 pub returns : goal.returns
 unfolding judged

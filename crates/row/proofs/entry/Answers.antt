@@ -17,6 +17,3 @@ returns-then-skips_row-clause-regions c q l =
     let old : List Float = region c.args.fl.now c.args.counts.now c.args.len q in
     sym (ap (λ (x : Crossing). old ++ listed x)
     (missed_up_to _ _ row.y row.z row.xs.now row.ix.now q (skip.1 (get_or row.xs.now q nan) ((row.within skip.0).on_x_law q l))) ∙ append-nil old)
-
-pub returns-clause-regions : goal.returns-clause-regions
-returns-clause-regions c q l = rw (c.ranges_of.ensures, c.read-t.ensures) at c.at_points.ensures.regions q l

@@ -1,8 +1,8 @@
 -- `row::row_answers` meets its contract: the pass and the answers, put together; the row's one list serves each point (`row_answer`). Assumes nothing.
-use Prim.Native.Nat.{ℕ, ◌+◌, ◌-◌}
+use Prim.Native.Nat.{ℕ}
 use native.Mathlib.Omega.{arith}
-use lib.ListN.{length, take, drop, get_or}
-use Rattle.std.proofs.lemmas.List.{get_or_append_left, get_or-append_right, get_or-drop, length-take-le}
+use lib.ListN.{length, take}
+use Rattle.std.proofs.lemmas.List.{get_or_append_left, length-take-le}
 use mathlib.Core.Path.{◌≡◌, ap, ◌∙◌}
 use mathlib.Core.List.{List}
 use Rattle.filling.specs.Inside.{odd_rest, yes}
@@ -25,11 +25,3 @@ returns-clause-answered c q l =
     ∙ ap yes (ap odd_rest (c.pass-read.ensures.regions q l)
     ∙ ap (λ (list : List ℕ). odd_rest (crossings_at s row.b row.y row.z row.xs.now list q)) c.requires.list_is
     ∙ row_answer s row.b row.y row.z row.xs.now q)
-
-pub returns-clause-rest : goal.returns-clause-rest
-returns-clause-rest c q l =
-    let n = length c.args.row.now.xs.now in
-    let long : length (take n c.args.out.now) ≡ n = length-take-le n c.args.out.now c.requires.bytes in
-    let back : n + (q - n) ≡ q = omega arith in
-    get_or-append_right c.answers.new.out (drop n c.args.out.now) n q 0 (c.answers.ensures.bytes ∙ long) l
-    ∙ get_or-drop n c.args.out.now (q - n) 0 ∙ ap (λ k. get_or c.args.out.now k 0) back

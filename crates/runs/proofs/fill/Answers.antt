@@ -30,9 +30,3 @@ returns-in-Marks c =
     let works = marks_works _ (sym c.in-Marks.is ∙ c.requires.form) in
     let filled = c.fill_marks in
     (c.count.ensures ∙ sym (working_count _ a.file.accepted works), subst (λ (form : Form). Held form filled.new.words a.file.bytes.now) (sym c.in-Marks.is) (works, filled.ensures.0), filled.ensures.1)
-
-pub returns-in-Words : goal.returns-in-Words
-returns-in-Words c =
-    let a = c.args in
-    let filled = c.fill_counted in
-    (filled.ensures.0, subst (λ (form : Form). Held form filled.new.words a.file.bytes.now) (sym c.in-Words.is) filled.ensures.1, filled.ensures.2)

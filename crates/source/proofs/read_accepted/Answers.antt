@@ -1,6 +1,5 @@
 -- `source::read_accepted` meets its contract: each way out is its own. Assumes nothing.
-use mathlib.Core.Path.{◌≡◌, ap, ◌∙◌}
-use Rattle.rym1.specs.File.{grid}
+use mathlib.Core.Path.{ap, ◌∙◌}
 use Rattle.runs.specs.Runs.{room_of}
 use Rattle.source.proofs.Ways.{way_8, way_21, way_read}
 use Rattle.source.proofs.read_accepted.Goals as goal
@@ -9,12 +8,6 @@ pub returns-then-words-room : goal.returns-then-words-room
 returns-then-words-room c =
     let form = c.form_of-form in
     way_8 _ _ c.args.file.accepted form.result form.ensures c.room.result (c.room.ensures ∙ ap (room_of form.result) c.grid.ensures.value) c.if-words-room.true
-
-pub fill-requires-clause-room : goal.fill-requires-clause-room
-fill-requires-clause-room c =
-    let form = c.form_of-form in
-    let room_is : c.room.result ≡ room_of form.result (grid c.args.file.bytes.now) = c.room.ensures ∙ ap (room_of form.result) c.grid.ensures.value in
-    rw room_is at c.if-words-room.false
 
 pub returns-then-fill-count : goal.returns-then-fill-count
 returns-then-fill-count c =

@@ -11,6 +11,3 @@ returns-in_err-accepted c =
     let p = err_from_is_err_and c.from_residual.result c.from_residual.ensures.1 in
     let e = c.in_err-accepted in
     rw (p.1, p.2) (way_file _ _ e.field-0.0 e.ensures.cause (number_pos e.field-0.0))
-
-pub returns : goal.returns
-returns c = rw c.in_ok-accepted.ensures.file at c.read_accepted.ensures

@@ -1,18 +1,9 @@
 -- `sums::mass_at` meets its contract: the word that is read, widened. Assumes nothing.
 use mathlib.Core.Path.{refl, sym, ap, ◌∙◌}
 use mathlib.Core.Bool.{false}
-use lib.Ieee.{binary32, of_bits, nan_bits}
-use Rattle.float.proofs.Finite.{may_read, may_widen}
+use lib.Ieee.{binary32, nan_bits}
+use Rattle.float.proofs.Finite.{may_widen}
 use Rattle.sums.proofs.mass_at.Goals as goal
-
-pub u32_at-requires : goal.u32_at-requires
-u32_at-requires c = c.requires.0
-
-pub float_from_bits-result : goal.float_from_bits-result
-float_from_bits-result c = may_read binary32 c.u32_at.result false (sym (ap (nan_bits binary32) c.u32_at.ensures ∙ c.requires.1)) refl
 
 pub float_to_float-result : goal.float_to_float-result
 float_to_float-result c = may_widen c.u32_at.result false (sym (ap (nan_bits binary32) c.u32_at.ensures ∙ c.requires.1)) refl
-
-pub returns : goal.returns
-returns c = ap (of_bits binary32) c.u32_at.ensures

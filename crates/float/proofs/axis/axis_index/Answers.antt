@@ -4,15 +4,11 @@ use lib.Dec.{T}
 use lib.Ieee.{binary64}
 use lib.Ieee.Bits.{of_bits-to_bits}
 use Rattle.float.specs.Axis.{axis_index}
-use Rattle.float.proofs.Kit.{no_nan}
 use Rattle.float.proofs.WholePart.{none_at_nan}
 use Rattle.float.proofs.axis.axis_index.Goals as goal
 
 pub returns-then-is_nan : goal.returns-then-is_nan
 returns-then-is_nan c = none_at_nan c.args.v c.is_nan.result c.is_nan.ensures.value c.if-is_nan.true
-
-pub float_to_bits-v : goal.float_to_bits-v
-float_to_bits-v c = no_nan c.args.v c.is_nan.result c.is_nan.ensures.value c.if-is_nan.false
 
 pub returns : goal.returns
 returns c =

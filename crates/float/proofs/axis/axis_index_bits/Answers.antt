@@ -1,6 +1,5 @@
 -- `float::axis::axis_index_bits` meets its contract: each way through the code is one range of patterns. Assumes nothing.
 use native.Mathlib.Omega.{arith}
-use lib.Bits.{mask_lt}
 use Rattle.float.proofs.WholePart.{none_above, none_below, top_above, under_top, at_top}
 use Rattle.float.proofs.axis.axis_index_bits.Goals as goal
 
@@ -12,11 +11,6 @@ returns-then-x-lt1023 c = none_below c.args.b (omega arith) c.if-x-lt1023.true
 
 pub returns-then-x-gt1029 : goal.returns-then-x-gt1029
 returns-then-x-gt1029 c = top_above c.args.b (omega arith) c.if-x-gt1029.true
-
-pub overflow_add-whole : goal.overflow_add-whole
-overflow_add-whole c =
-    let small = mask_lt c.args.b 52 in
-    omega arith
 
 pub returns-then-whole-lt95 : goal.returns-then-whole-lt95
 returns-then-whole-lt95 c =

@@ -1,13 +1,9 @@
 -- `float::pattern::is_nan` meets its contract. Assumes nothing.
 use mathlib.Core.Path.{◌∙◌, ap₂, sym}
 use Prim.Native.Nat.{ℕ, ◌%◌}
-use native.Mathlib.Omega.{arith}
 use lib.Dec.{ltb}
 use lib.Ieee.Bits.{nan_bits_above}
 use Rattle.float.proofs.pattern.is_nan.Goals as goal
-
-pub nonzero_rem-result : goal.nonzero_rem-result
-nonzero_rem-result g c = let t = g.F.Layout.told in omega (arith, t.0)
 
 pub returns : goal.returns
 returns g c =

@@ -1,16 +1,10 @@
 -- `mascon_grid::scaling::scale_masses` meets its contract: the records that are left decide, and once scaled make the whole of it. Assumes nothing.
-use mathlib.Core.Path.{refl, sym, ap, ◌∙◌}
+use mathlib.Core.Path.{sym, ap, ◌∙◌}
 use mathlib.Core.Bool.{true≢false}
 use native.Mathlib.Omega.{arith}
 use Rattle.mascon_grid.specs.Scaled.{scaled_point}
-use Rattle.mascon_grid.proofs.ScalingLoops.{scaling_start, scaling_stop, scaling_turn, scaling_end}
+use Rattle.mascon_grid.proofs.ScalingLoops.{scaling_stop, scaling_turn, scaling_end}
 use Rattle.mascon_grid.proofs.scaling.scale_masses.Goals as goal
-
-pub loop-i-init : goal.loop-i-init
-loop-i-init c = let a = c.args in (refl, scaling_start a.out.now a.k a.l a.n)
-
-pub shape_of-out-then-not-are_fine : goal.shape_of-out-then-not-are_fine
-shape_of-out-then-not-are_fine c = c.loop-i.invariant.0
 
 pub returns-then-not-are_fine : goal.returns-then-not-are_fine
 returns-then-not-are_fine c =
@@ -30,9 +24,6 @@ loop-i-preserved c =
       wrote.auto.file ∙ loop.invariant.0,
       scaling_turn a.out.now loop.out a.k a.l a.n loop.i p.result (omega arith) (p.ensures ∙ ap (scaled_point a.k a.l) c.point_at.ensures) loop.invariant.1 (omega arith) good wrote.new.file wrote.ensures,
     )
-
-pub shape_of-out : goal.shape_of-out
-shape_of-out c = c.loop-i.invariant.0
 
 pub returns : goal.returns
 returns c =

@@ -1,16 +1,12 @@
 -- `points::judge::is_working` meets its contract: the form of all records is that of the records left, from `low` on. Assumes nothing.
 use Prim.Native.Nat.{ℕ, ◌+◌, ◌*◌, ◌-◌}
 use mathlib.Core.Path.{◌≡◌, sym, ap₂, ◌∙◌}
-use Rattle.std.proofs.Math.Nat.{sub-zero}
 use native.Mathlib.Omega.{arith}
 use Rattle.rym1.specs.File.{cell_of, points, points_at, working}
 use Rattle.rym1.proofs.Cells.{cube_few}
 use Rattle.points.proofs.Turns.{work_low, work_pad, work_go, work_end}
 use Rattle.points.proofs.judge.is_working.Goals.{then-c-low-via-then-c-low, then-c-low-via-else-c-low+then-p-ne0}
 use Rattle.points.proofs.judge.is_working.Goals as goal
-
-pub loop-i-init : goal.loop-i-init
-loop-i-init c = rw (sub-zero c.count-n.result)
 
 pub returns-then-c-low : goal.returns-then-c-low
 unfolding cell_of points

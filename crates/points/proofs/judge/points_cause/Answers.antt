@@ -1,7 +1,6 @@
 -- `points::judge::points_cause` meets its contract: the invariant: the cause of all records is that of the records left. Assumes nothing.
 use Prim.Native.Nat.{ℕ, ◌+◌, ◌*◌, ◌-◌}
 use mathlib.Core.Path.{◌≡◌, refl, sym, ap₂, ◌∙◌}
-use Rattle.std.proofs.Math.Nat.{sub-zero}
 use native.Mathlib.Omega.{arith}
 use Rattle.std.proofs.lemmas.Result.{err_from_is_err_and}
 use Rattle.rym1.specs.Causes.{number, judged}
@@ -9,9 +8,6 @@ use Rattle.rym1.specs.File.{size, points_at, points_cause}
 use Rattle.rym1.proofs.Causes.{number_pos}
 use Rattle.points.proofs.Turns.{cause_stop, cause_go, cause_end}
 use Rattle.points.proofs.judge.points_cause.Goals as goal
-
-pub loop-i-init : goal.loop-i-init
-loop-i-init c = rw (sub-zero c.args.n)
 
 pub point_at-requires : goal.point_at-requires
 unfolding size

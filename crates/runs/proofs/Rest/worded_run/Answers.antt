@@ -1,11 +1,11 @@
 -- `runs::Rest::worded_run` meets its contract: up to the place that the loop is at the row's points are records on end. Assumes nothing.
 use Prim.Native.Nat.{◌+◌}
-use mathlib.Core.Path.{refl, ap, ◌∙◌}
+use mathlib.Core.Path.{ap, ◌∙◌}
 use native.Mathlib.Omega.{arith}
 use Rattle.rym1.specs.File.{grid}
 use Rattle.rym1.proofs.Accepted.{accepted}
 use Rattle.rym1.proofs.Cells.{cube_few}
-use Rattle.runs.proofs.Runs.{grid_few, words_held, row_fits, row_cell, worded_none, worded_one, gather_start, gather_none, gather_next, gather_first, gathered_up_to, row_word}
+use Rattle.runs.proofs.Runs.{grid_few, words_held, row_fits, row_cell, worded_none, worded_one, gather_start, gather_none, gather_next, gather_first, row_word}
 use Rattle.runs.proofs.Rest.worded_run.Goals as goal
 use Rattle.runs.proofs.Rest.worded_run.Goals.{then-word-ne0+else-word-index, then-count-eq0, else-count-eq0, else-word-ne0}
 
@@ -23,14 +23,6 @@ bounds-self-row c =
     let s = c.args.self.now.lookup in
     let low = row_fits s.file.bytes.now s.g c.loop-next.next c.args.self.now.x1 c.args.self.now.y c.args.self.now.z (c.cell_number-row.result + c.loop-next.next) s.ready.gridded (row_cell s.g c.loop-next.next c.args.self.now.y c.args.self.now.z c.cell_number-row.result c.cell_number-row.ensures.0) c.loop-next-test.true c.args.self.now.x_in c.args.self.now.y_in c.args.self.now.z_in in
     omega (arith, low, c.loop-next-test.true, (words_held s.ready c.requires.form).room)
-
-pub returns-then-word-index : goal.returns-then-word-index
-returns-then-word-index c =
-    let d = c.loop-next.invariant in
-    elim c.if-count-eq0.branch [
-      | then-count-eq0 v ↦ absurd (c.if-word-index.true (omega (arith, v.index-is, v.if-count-eq0.true)))
-      | else-count-eq0 v ↦ rw v.index-is (gathered_up_to _ _ _ _ _ _ _ _ _ d c.loop-next.next refl (omega (arith, d.passed, v.if-count-eq0.false)) (omega arith))
-    ]
 
 pub loop-next-init : goal.loop-next-init
 loop-next-init c = gather_start _ _ _ _ _ _
@@ -54,6 +46,3 @@ loop-next-preserved c =
       | else-word-ne0 w ↦ rw (w.index-is, w.count-is)
           (gather_none s.file.bytes.now s.g a.z a.y a.x a.x1 _ _ at d (worded_none s.file.bytes.now s.ready.accepted s.g s.ready.gridded at a.x1 a.y a.z c.loop-next-test.true a.x_in a.y_in a.z_in _ word w.if-word-ne0.false))
     ]
-
-pub returns : goal.returns
-returns c = gathered_up_to _ _ _ _ _ _ _ _ _ c.loop-next.invariant _ (omega arith) c.args.self.now.some (omega arith)

@@ -33,9 +33,6 @@ loop-r-preserved c =
           w.new.out w.result (records_ordered f p.z p.y p.index p.count l.out w.new.out l.at w.result w.ensures.0 w.ensures.1),
     )
 
-pub shape_of-out : goal.shape_of-out
-shape_of-out c = c.loop-r.invariant.3.long
-
 pub returns : goal.returns
 returns c =
     let a = c.args in

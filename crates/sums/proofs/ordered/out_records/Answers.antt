@@ -5,12 +5,6 @@ use native.Mathlib.Omega.{arith}
 use Rattle.sums.proofs.Order.{counting_turn, counting_end}
 use Rattle.sums.proofs.ordered.out_records.Goals as goal
 
-pub loop-k-init : goal.loop-k-init
-loop-k-init c =
-    let from : c.args.from + 4 * 0 ≡ c.args.from = omega arith in
-    let first : c.args.r.index + 0 ≡ c.args.r.index = omega arith in
-    rw (from, first) (record { long = refl; next = refl; bytes = refl })
-
 pub loop-k-preserved : goal.loop-k-preserved
 loop-k-preserved c =
     let a = c.args in
