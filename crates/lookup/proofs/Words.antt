@@ -10,11 +10,9 @@ use borrow.Author.Tests.{ne_eqb}
 use native.Mathlib.Omega.{arith}
 use lib.ListN.{length, get_or, set, take, length-set, length-append}
 use lib.Seq.{get_or-set_same, get_or-set_other}
-use Rattle.rym1.specs.declared.Point.{Point}
-use Rattle.rym1.specs.File.{grid, count, size, point_at, points_at, points, cell_of, cube, file_cause}
+use Rattle.rym1.specs.File.{grid, count, point_at, points_at, points, cell_of, cube}
 use Rattle.rym1.specs.Cells.{Slot, vacant, held, named, later, look_from, look, masses_in, mass_map, at_cell, records_from, records}
 use Rattle.rym1.specs.Open.{occupied, occupied_of}
-use Rattle.rym1.proofs.Accepted.{Inside, accepted, accepted_points, inside_at}
 use Rattle.rym1.proofs.Cells.{named_same, named_other, records_more}
 use Rattle.lookup.specs.Lookup.{slot_word, Looked}
 use Rattle.std.proofs.Common.{◌==◌, count_by}
@@ -85,16 +83,6 @@ enter_end words f g i n eg e d = record { room = rw eg at d.room; each = λ c b.
     none_left c =
         let none : n - i ≡ 0 = omega arith in
         rw none (unfold points_at look_from slot_word over in refl)
-
--- a record lies in the file, and in the grid
-pub point_there : (f : List ℕ) (i n : ℕ) → file_cause f ≡ 0 → n ≡ count f → i < n → 64 + 16 * i + 16 ≤ length f
-unfolding size
-point_there f i n ok en h = omega (arith, en, h, (accepted f ok).room)
-
-pub point_inside : (f : List ℕ) (g i n : ℕ) (p : Point) → file_cause f ≡ 0 → g ≡ grid f → n ≡ count f → i < n → p ≡ point_at f (64 + 16 * i)
-    → (g ≤ 256) × Inside g p.x p.y p.z
-point_inside f g i n p ok eg en h ep =
-    (rw eg (accepted f ok).grid_few, inside_at g f (64 + 16 * i) n i p (rw (eg, en) (unfold points in accepted_points f ok)) refl h ep)
 
 -- ---- words that are not 0: the occupied cells
 

@@ -7,7 +7,7 @@ use native.Mathlib.Nat.{zero-add, sub-zero, one-mul, pow-suc}
 use native.Mathlib.Omega.{arith}
 use lib.ListN.{length, get_or}
 use lib.Bits.{bit_and}
-use lib.Pow.{shl_exact, pow_pos, pow_mono}
+use lib.Pow.{shl_exact, pow_pos}
 use lib.Count.{ones, ones-ones}
 use Rattle.rym1.specs.File.{grid, cube, file_cause, work_cause, groups}
 use Rattle.rym1.specs.Cells.{Masses, look, look_from, mass_map, at_cell, records_from, records}
@@ -95,12 +95,6 @@ ones_part words f d c w low fits =
     rw (word_from words f d c low) (rw rest at (ones_masked (mark f) (mark_bit f) c w (32 - c % 32 - w)))
 
 -- their mask as the code has it: w ones
-pub half_word : (j : ℕ) → j < 32 → 1 * 2 ^ j % 4294967296 ≤ 2147483648
-half_word j h = rw (shifted j h) (pow_mono (small j h))
-  where
-    small : (j : ℕ) → j < 32 → j ≤ 31
-    small j h = omega arith
-
 pub mask_is : (w : ℕ) → 0 < w → w ≤ 32 → 2 * (1 * 2 ^ (w - 1) % 4294967296 - 1) + 1 ≡ 2 ^ w - 1
 mask_is w pos few =
     let up : suc (w - 1) ≡ w = omega arith in

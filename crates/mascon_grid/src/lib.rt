@@ -21,7 +21,7 @@ use scaling::{header_of, scale_records};
 use visit::frame::{box_flat, frame_of};
 use visit::{Found, Grid, capacity_of, visit_cells};
 
-// The call's six lists and numbers are no struct: they are judged first, and from then on `Grid` carries all but target and density, two numbers that `finish` alone takes.
+// The call's six lists and numbers are no struct: they are judged first, and from then on `Grid` carries all but target and density, two numbers that go on to `finish`.
 
 // 17.
 #[tactic(auto, unfolding(filling::specs::Fill::lists_wrong))]
