@@ -10,7 +10,7 @@ use lib.Dec.{T, eqb, leb, lit≤}
 use lib.Arith.{digits_lt, digits_mod}
 use lib.Pow.{pow-add, pow_pos, pow-lt}
 use borrow.Author.Tests.{lt-ltb, le-leb, lt-leb, eq-eqb, ne_eqb, leb-true, leb-false}
-use lib.Ieee.{Float, binary32, binary64, fits, of_bits, to_bits, is_nan}
+use lib.Ieee.{Float, binary32, binary64, fits, of_bits, to_bits, is_nan, ne}
 use lib.Ieee.Scale.{finite}
 use lib.Ieee.Bits.{to_bits-lt}
 use Rattle.float.specs.Layout.{full, lowest, infinity, quiet, sign_field, exp_field, frac_field, magnitude}
@@ -18,12 +18,16 @@ use Rattle.float.specs.Rule.{threshold}
 use Rattle.float.specs.Narrow.{narrow64, narrowed, too_large, narrowing, is_large, float_word, Told}
 use Rattle.float.proofs.Generic.{narrow_rounds, narrow_infinite, narrow_nan}
 use Rattle.float.proofs.Finite.{bits_finite}
-use Rattle.float.proofs.Kit.{is_nan_law, back, narrow_value, narrowed_fits}
+use Rattle.float.proofs.Kit.{nan_told, is_nan_law, back, narrow_value, narrowed_fits}
 
 -- ---- the code's three ways
 
-pub nan_large : (x : Float) (r : Bool) → r ≡ is_nan x → r ≡ true → None ≡ narrowing x
-nan_large x r e h = subst (λ (v : Float). None ≡ narrowing v) (sym (is_nan_law x r e h)) (unfold narrowing narrowed in refl)
+pub told_large : (x : Float) (r : Bool) → r ≡ is_nan x → r ≡ true → None ≡ narrowing x
+told_large x r e h = subst (λ (v : Float). None ≡ narrowing v) (sym (nan_told x r e h)) (unfold narrowing narrowed in refl)
+
+pub nan_large : (x : Float) → ne x x ≡ true → None ≡ narrowing x
+unfolding is_nan
+nan_large x h = told_large x true (sym (ap is_nan (is_nan_law x h))) refl
 
 module _ (x : Float) (held : T (fits binary64 x)) (r : ℕ) (e : r ≡ narrow64 (to_bits binary64 x)) where
   pub pattern_large : (t : Bool) → t ≡ finite (of_bits binary32 r) → t ≡ false → None ≡ narrowing x

@@ -20,7 +20,7 @@ use Rattle.float.specs.Layout.{exp_field, digits_of}
 use Rattle.float.specs.Axis.{greatest, axis_index, Greatest}
 use Rattle.float.proofs.Generic.{pow_2, pow_eq, digits_suc, digits_lt_pow}
 use Rattle.float.proofs.Machine.{digits_is}
-use Rattle.float.proofs.Kit.{pattern_64, is_nan_law}
+use Rattle.float.proofs.Kit.{pattern_64, nan_told}
 
 -- ---- Bool tests
 same_test : (a b : Bool) → (T a → T b) → (T b → T a) → a ≡ b
@@ -357,6 +357,6 @@ module _ (b : ℕ) (low : b < 0x7ff0_0000_0000_0001) where
       go : (w : ℕ) → 95 ≤ w → min w 95 ≡ 95
       go w g = omega arith
 
--- a NaN, which `v != v` tells
+-- a NaN, as its test tells
 pub none_at_nan : (v : Float) (r : Bool) → r ≡ is_nan v → r ≡ true → 0 ≡ axis_index v
-none_at_nan v r e h = from_none v (subst (λ (y : Float). to_unsigned 64 y ≡ 0) (sym (is_nan_law v r e h)) (unfold to_unsigned in refl))
+none_at_nan v r e h = from_none v (subst (λ (y : Float). to_unsigned 64 y ≡ 0) (sym (nan_told v r e h)) (unfold to_unsigned in refl))

@@ -2,11 +2,11 @@
 use mathlib.Core.Path.{sym, subst}
 use lib.Dec.{T}
 use Rattle.float.proofs.Kit.{no_nan, no_nan_bits}
-use Rattle.float.proofs.Large.{nan_large, pattern_large, pattern_finite, told}
+use Rattle.float.proofs.Large.{told_large, pattern_large, pattern_finite, told}
 use Rattle.float.proofs.narrow.Goals as goal
 
 pub returns-then-is_nan : goal.returns-then-is_nan
-returns-then-is_nan c = told c.args.x (subst T (sym c.well_formed.0.1) tt) _ (nan_large c.args.x c.is_nan.result c.is_nan.ensures.value c.if-is_nan.true)
+returns-then-is_nan c = told c.args.x (subst T (sym c.well_formed.0.1) tt) _ (told_large c.args.x c.is_nan.result c.is_nan.ensures.value c.if-is_nan.true)
 
 pub returns-then-not-is_finite : goal.returns-then-not-is_finite
 returns-then-not-is_finite c =
