@@ -32,11 +32,17 @@ fn fill_lookup(words: &mut [u32], file: PointFile<'_>)
     enter_points(words, file);
 }
 
-// How many words are not 0.
+// How many words are not 0. Not by `filter`, which branches at each word: of a model half of whose cells are occupied, every other one is guessed wrong.
 fn count_marked(words: &[u32]) -> usize
     ensures { (result ≡ count_by (λ w. not (w == 0)) words.now) × (result ≤ length words.now) }
 {
-    words.iter().filter(|w| **w != 0).count()
+    let mut found: usize = 0;
+    for word in words.iter() {
+        if *word != 0 {
+            found += 1;
+        }
+    }
+    found
 }
 
 // The whole lookup; how many cells are occupied.

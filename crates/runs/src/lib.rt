@@ -136,30 +136,34 @@ impl Rest<'_> {
         Run { index, count, next }
     }
 
-    // By words: the row's points from the first one on, as long as their records stand on end.
+    // By words: the row's first point. A run of one record, as long ones are no gain where records stand in another order: the word that ends one is read again for the next.
     #[inline(always)]
     fn worded_run(&self) -> Run
         requires form { self.now.lookup.form ≡ Words }
         ensures { Ran self.now.lookup.file.bytes.now self.now.lookup.g self.now.z self.now.y self.now.x self.now.x1 result }
     {
         let row = cell_number(self.lookup.g, 0, self.y, self.z);
-        let mut index = 0;
-        let mut count = 0;
-        for next in self.x..self.x1 {
-            let word = self.lookup.words[(row + next) as usize];
+        let first = self.lookup.words[(row + self.x) as usize];
+        if first != 0 {
+            return Run {
+                index: first - 1,
+                count: 1,
+                next: self.x + 1,
+            };
+        }
+        for x in self.x + 1..self.x1 {
+            let word = self.lookup.words[(row + x) as usize];
             if word != 0 {
-                if count == 0 {
-                    index = word - 1;
-                }
-                if word - 1 != index + count {
-                    return Run { index, count, next };
-                }
-                count += 1;
+                return Run {
+                    index: word - 1,
+                    count: 1,
+                    next: x + 1,
+                };
             }
         }
         Run {
-            index,
-            count,
+            index: 0,
+            count: 0,
             next: self.x1,
         }
     }

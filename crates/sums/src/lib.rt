@@ -75,8 +75,9 @@ fn add_records(file: PointFile<'_>, s: Sums, r: Stretch) -> Sums
     ensures { result ≡ total s (points_of file.entry.bytes.now r) }
 {
     let mut t = s;
-    for index in r.index..r.index + r.count {
-        let at = 64 + 16 * index as usize;
+    // By how many, so that of a stretch of one record the compiler sees that it is one.
+    for k in 0..r.count {
+        let at = 64 + 16 * (r.index + k) as usize;
         let x = binary::u16_at(file.bytes, at);
         let cauchy = mass_at(file.bytes, at + 8);
         let elliptic = mass_at(file.bytes, at + 12);
