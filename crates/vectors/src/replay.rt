@@ -6,13 +6,13 @@ use std::rt::Files;
 use std::{fs, io};
 use stored::Case;
 
-// Whether the file's next case is the same, if there is one. One that is cut short is different.
+// Whether the file's next case is the same, if there is one. One that is cut short is lent as it is, and so is different.
 fn next_case<C: Case, R: Read>(file: &mut R, case: &mut [u8]) -> io::Result<Option<bool>> {
     let n = read_full(file, case)?;
     if n == 0 {
         return Ok(None);
     }
-    Ok(Some(n == case.len() && C::is_same(case)))
+    Ok(Some(C::is_same(&case[..n])))
 }
 
 #[derive(Clone, Copy)]
@@ -38,7 +38,8 @@ fn count_cases<C: Case, R: Read>(file: &mut R, case: &mut [u8]) -> io::Result<Ta
     })
 }
 
-// One line: what was replayed, and how many cases of how many are the same.
+// One line: what was replayed, and how many cases of how many are the same. Not inlined: the buffers of all kinds would stand on the stack of `main` at once.
+#[inline(never)]
 pub fn replay_file<C: Case, R: Files + Print>(rt: &R, name: &str, path: &str) -> io::Result<()> {
     let mut file = fs::open(rt, path)?;
     let mut buffer: [u8; 65536] = [0; 65536];
