@@ -4,8 +4,8 @@ use Prim.Native.Nat.{ℕ, zero, suc, ◌+◌, ◌-◌, ◌*◌, ◌%◌, ◌≤�
 use mathlib.Core.Path.{◌≡◌, refl, sym, ap, ◌∙◌, subst}
 use mathlib.Core.Bool.{Bool, true, false, cond}
 use mathlib.Core.Option.{Option, none, some}
-use mathlib.Core.List.{List, [], ◌∷◌, ◌++◌, append-nil, append_assoc}
-use native.Mathlib.Nat.{zero-add, add-zero, suc-add, add-suc, sub-zero, one-mul, add-mul, mul-le-mul_right}
+use mathlib.Core.List.{List, [], ◌∷◌, ◌++◌, append-nil}
+use native.Mathlib.Nat.{zero-add, sub-zero, one-mul, add-mul, mul-le-mul_right}
 use native.Mathlib.Omega.{arith}
 use lib.ListN.{length, get_or}
 use lib.Arith.{digits_lt, digits_mod}
@@ -29,6 +29,7 @@ use Rattle.rtm1.specs.Visit.{Placed, here, run, point_in}
 use Rattle.rtm1.specs.Build.{scratch_words}
 use Rattle.rtm1.proofs.Visit.{run_first, run_none}
 use Rattle.runs.specs.declared.Form.{Form}
+use Rattle.runs.specs.declared.Run.{Run}
 use Rattle.runs.specs.declared.Form.TheVariants.{Marks, Words}
 use Rattle.runs.specs.Runs.{placed_at, placed, form_of, room_of, Held, Ready, Ran}
 
@@ -217,64 +218,49 @@ module _ (f : List ℕ) (ok : file_cause f ≡ 0) (g : ℕ) (eg : g ≡ grid f) 
             fits = omega (arith, fit, some_word);
           }
 
--- records on end, in two parts
-placed_split : (f : List ℕ) (z y i j k : ℕ) → placed f z y i (j + k) ≡ placed f z y i j ++ placed f z y (i + j) k
-unfolding placed
-placed_split f z y i zero k = rw (zero-add k, add-zero i) refl
-placed_split f z y i (suc j) k = rw (suc-add j k, add-suc i j, placed_split f z y (suc i) j k, suc-add i j) refl
-
 module _ (f : List ℕ) (g z y x x1 : ℕ) where
-  -- up to `at` a row's points are k records on end, from i on
-  pub record Gathered (i k at : ℕ) : Type 0 where
-    pub points : run (point_in (look f) g z y) x (x1 - x) ≡ placed f z y i k ++ run (point_in (look f) g z y) at (x1 - at)
-    pub passed : x + k ≤ at
-    pub in_file : i + k ≤ count f
-    pub fits : i + k < 4294967296
+  -- up to `at` a row has no points
+  pub record Passed (at : ℕ) : Type 0 where
+    pub points : run (point_in (look f) g z y) x (x1 - x) ≡ run (point_in (look f) g z y) at (x1 - at)
+    pub on : x ≤ at
 
-  pub gather_start : Gathered 0 0 x
+  -- an empty cell
+  pub passed_none : (at : ℕ) → Passed at → Ran f g z y at x1 (record { index = 0; count = 0; next = at + 1 }) → Passed (at + 1)
   unfolding placed
-  gather_start = record { points = refl; passed = omega arith; in_file = omega arith; fits = omega arith }
+  passed_none at d r = record { points = d.points ∙ r.points; on = omega (arith, d.on) }
 
-  module _ (i k at : ℕ) (d : Gathered i k at) where
-    -- an empty cell
-    pub gather_none : Ran f g z y at x1 (record { index = 0; count = 0; next = at + 1 }) → Gathered i k (at + 1)
-    unfolding placed
-    gather_none r =
-        record { points = d.points ∙ ap (λ (l : List Placed). placed f z y i k ++ l) r.points; passed = omega (arith, d.passed); in_file = d.in_file; fits = d.fits }
+  -- the first empty cell
+  pub passed_first : Ran f g z y x x1 (record { index = 0; count = 0; next = x + 1 }) → Passed (x + 1)
+  passed_first r = passed_none x (record { points = refl; on = omega arith }) r
 
-    -- the next record
-    pub gather_next : Ran f g z y at x1 (record { index = i + k; count = 1; next = at + 1 }) → Gathered i (k + 1) (at + 1)
-    gather_next r =
-        record {
-          points = d.points ∙ ap (λ (l : List Placed). placed f z y i k ++ l) r.points ∙ sym (rw (placed_split f z y i k 1, append_assoc) refl);
-          passed = omega (arith, d.passed);
-          in_file = omega (arith, r.in_file);
-          fits = omega (arith, r.fits);
-        }
+  -- no point at all
+  pub passed_end : (at : ℕ) → Passed at → x < x1 → x1 ≤ at → Ran f g z y x x1 (record { index = 0; count = 0; next = x1 })
+  unfolding placed
+  passed_end at d low high =
+      let row = point_in (look f) g z y in
+      record { points = d.points ∙ run_none row x1 at high ∙ sym (run_none row x1 x1 (omega arith)); on = low; in_row = omega arith; in_file = omega arith; fits = omega arith }
 
-    -- the first
-    pub gather_first : k ≡ 0 → (j : ℕ) → Ran f g z y at x1 (record { index = j; count = 1; next = at + 1 }) → Gathered j 1 (at + 1)
-    unfolding placed
-    gather_first e j r =
-        let none : placed f z y i k ≡ [] = rw e refl in
-        record {
-          points = d.points ∙ rw none r.points;
-          passed = omega (arith, d.passed);
-          in_file = r.in_file;
-          fits = r.fits;
-        }
+  -- what runs from there runs from x
+  pub passed_run : (at : ℕ) → Passed at → (r : Run) → Ran f g z y at x1 r → Ran f g z y x x1 r
+  passed_run at d r e = record { points = d.points ∙ e.points; on = omega (arith, d.on, e.on); in_row = e.in_row; in_file = e.in_file; fits = e.fits }
 
 -- the row's cells by its first one
 pub row_cell : (g x y z c : ℕ) → c ≡ cell g 0 y z → c + x ≡ cell g x y z
 unfolding cell
 row_cell g x y z c e = omega (arith, e)
 
+-- a cell of the row lies in the words, and its number fits
+pub row_in : {form : Form} {words f : List ℕ} {g : ℕ} → Ready form words f g → form ≡ Words → (x x1 y z c : ℕ) → c ≡ cell g 0 y z → x < x1 → x1 ≤ g → y < g → z < g
+    → (c + x < cube (grid f)) × (cube (grid f) ≤ length words) × (c + x < 4294967296)
+row_in {form} {words} {f} {g} h e x x1 y z c ec xl xh yl zl =
+    let low = row_fits f g x x1 y z (c + x) h.gridded (row_cell g x y z c ec) xl xh yl zl in
+    (omega (arith, low, xl), (words_held h e).room, omega (arith, low, cube_few (grid f) (accepted f h.accepted).grid_few))
+
 -- the word of a cell of the row
 pub row_word : {form : Form} {words f : List ℕ} {g : ℕ} → Ready form words f g → form ≡ Words → (x x1 y z c : ℕ) → c ≡ cell g 0 y z → x < x1 → x1 ≤ g → y < g → z < g
     → get_or words (c + x) 0 ≡ slot_word (look f (cell g x y z))
 row_word {form} {words} {f} {g} h e x x1 y z c ec xl xh yl zl =
-    let there = row_cell g x y z c ec in
-    (words_held h e).each (c + x) (omega (arith, row_fits f g x x1 y z (c + x) h.gridded there xl xh yl zl, xl)) ∙ ap (λ (k : ℕ). slot_word (look f k)) there
+    (words_held h e).each (c + x) (row_in h e x x1 y z c ec xl xh yl zl).0 ∙ ap (λ (k : ℕ). slot_word (look f k)) (row_cell g x y z c ec)
 
 -- ---- forms
 
